@@ -1,5 +1,5 @@
 -- Down the left operands of chains in terms, and up again.
-use Rattle.std.proofs.Common.{◌≡◌, ◌∙◌, ℕ, suc, ◌≤◌, max, List, [], ◌∷◌, ◌++◌, refl, ap, sym, Option, Result, Ok, Err, arith}
+use Rattle.std.proofs.Common.{◌≡◌, ◌∙◌, ℕ, suc, ◌≤◌, max, List, [], ◌∷◌, ◌++◌, refl, ap, sym, Result, Ok, Err, arith}
 use Rattle.text_core.specs.declared.fault.PassError.{PassError}
 use Rattle.text_core.specs.declared.refusal.SourceError.{SourceError}
 use Rattle.text_core.specs.declared.span.Span.{Span}
@@ -14,7 +14,8 @@ use Rattle.logic_elab.specs.declared.chain.TermOperation.TheVariants as operatio
 use Rattle.logic_elab.specs.Answers.{◌>>=◌, Refuses, pair}
 use Rattle.logic_elab.specs.Chains.{behind, climbed, connection, left_of, operation_size, operations_size, written}
 use Rattle.logic_elab.specs.Scope.{Scope}
-use Rattle.logic_elab.specs.Elaborated.{asserted, connected, elaborated, formula, sorted}
+use Rattle.logic_elab.specs.declared.scope.Symbol.{Symbol}
+use Rattle.logic_elab.specs.Elaborated.{asserted_under, connected, elaborated_under, formula, sorted}
 use Rattle.logic_elab.proofs.Stops.{along, refuses_then}
 
 -- ---- an operation, its left operand first
@@ -35,40 +36,40 @@ left_first : (op : Term → Term → Term) (s : Span) (m : Elaborated) (n : Resu
 left_first op s (Ok a) n = first op (formula s a) n
 left_first op s (Err e) n = refl
 
-module _ (Γ : Scope) where
-  left_operand : (s : Span) (o : TermOperation) → elaborated Γ (written s o) ≡ (elaborated Γ (left_of o) >>= behind Γ o)
+module _ (Γ : Scope) (bs : List Symbol) where
+  left_operand : (s : Span) (o : TermOperation) → elaborated_under Γ bs (written s o) ≡ (elaborated_under Γ bs (left_of o) >>= behind Γ bs o)
   left_operand s (operation.View t) = refl
   left_operand s (operation.Calculate op t u) = refl
   left_operand s (operation.Compare op t u) = refl
-  left_operand s (operation.Connect connective.And t u) = left_first (connection connective.And) (span_of t.now) (elaborated Γ t.now) (asserted Γ u.now)
-  left_operand s (operation.Connect connective.Or t u) = left_first (connection connective.Or) (span_of t.now) (elaborated Γ t.now) (asserted Γ u.now)
-  left_operand s (operation.Connect connective.Implies t u) = left_first (connection connective.Implies) (span_of t.now) (elaborated Γ t.now) (asserted Γ u.now)
+  left_operand s (operation.Connect connective.And t u) = left_first (connection connective.And) (span_of t.now) (elaborated_under Γ bs t.now) (asserted_under Γ bs u.now)
+  left_operand s (operation.Connect connective.Or t u) = left_first (connection connective.Or) (span_of t.now) (elaborated_under Γ bs t.now) (asserted_under Γ bs u.now)
+  left_operand s (operation.Connect connective.Implies t u) = left_first (connection connective.Implies) (span_of t.now) (elaborated_under Γ bs t.now) (asserted_under Γ bs u.now)
 
   -- ---- operations on a stack
 
-  climbed_last : (os : List TermOperation) (o : TermOperation) (m : Elaborated) → climbed Γ (os ++ o ∷ []) m ≡ climbed Γ os (m >>= behind Γ o)
+  climbed_last : (os : List TermOperation) (o : TermOperation) (m : Elaborated) → climbed Γ bs (os ++ o ∷ []) m ≡ climbed Γ bs os (m >>= behind Γ bs o)
   climbed_last [] o m = refl
-  climbed_last (p ∷ os) o m = ap (λ n. n >>= behind Γ p) (climbed_last os o m)
+  climbed_last (p ∷ os) o m = ap (λ n. n >>= behind Γ bs p) (climbed_last os o m)
 
   -- a step down
   pub down : (os ps : List TermOperation) (o : TermOperation) (s : Span) (t : Pterm) → ps ≡ os ++ o ∷ [] → written s o ≡ t
-      → climbed Γ os (elaborated Γ t) ≡ climbed Γ ps (elaborated Γ (left_of o))
+      → climbed Γ bs os (elaborated_under Γ bs t) ≡ climbed Γ bs ps (elaborated_under Γ bs (left_of o))
   down os ps o s t pushed is =
-      ap (climbed Γ os) (ap (elaborated Γ) (sym is) ∙ left_operand s o)
-      ∙ sym (climbed_last os o (elaborated Γ (left_of o)))
-      ∙ ap (λ qs. climbed Γ qs (elaborated Γ (left_of o))) (sym pushed)
+      ap (climbed Γ bs os) (ap (elaborated_under Γ bs) (sym is) ∙ left_operand s o)
+      ∙ sym (climbed_last os o (elaborated_under Γ bs (left_of o)))
+      ∙ ap (λ qs. climbed Γ bs qs (elaborated_under Γ bs (left_of o))) (sym pushed)
 
   -- a step up
-  pub up : (os ps : List TermOperation) (o : TermOperation) (a b : SortedTerm) → ps ≡ os ++ o ∷ [] → behind Γ o a ≡ Ok b → climbed Γ ps (Ok a) ≡ climbed Γ os (Ok b)
-  up os ps o a b popped is = ap (λ qs. climbed Γ qs (Ok a)) popped ∙ climbed_last os o (Ok a) ∙ ap (climbed Γ os) is
+  pub up : (os ps : List TermOperation) (o : TermOperation) (a b : SortedTerm) → ps ≡ os ++ o ∷ [] → behind Γ bs o a ≡ Ok b → climbed Γ bs ps (Ok a) ≡ climbed Γ bs os (Ok b)
+  up os ps o a b popped is = ap (λ qs. climbed Γ bs qs (Ok a)) popped ∙ climbed_last os o (Ok a) ∙ ap (climbed Γ bs os) is
 
-  pub climbed_refuses : (stop : PassError) (os : List TermOperation) (m : Elaborated) → Refuses stop m → Refuses stop (climbed Γ os m)
+  pub climbed_refuses : (stop : PassError) (os : List TermOperation) (m : Elaborated) → Refuses stop m → Refuses stop (climbed Γ bs os m)
   climbed_refuses stop [] m h = h
-  climbed_refuses stop (o ∷ os) m h = refuses_then stop (climbed Γ os m) (behind Γ o) (climbed_refuses stop os m h)
+  climbed_refuses stop (o ∷ os) m h = refuses_then stop (climbed Γ bs os m) (behind Γ bs o) (climbed_refuses stop os m h)
 
-  pub up_refuses : (stop : PassError) (os ps : List TermOperation) (o : TermOperation) (a : SortedTerm) → ps ≡ os ++ o ∷ [] → Refuses stop (behind Γ o a) → Refuses stop (climbed Γ ps (Ok a))
+  pub up_refuses : (stop : PassError) (os ps : List TermOperation) (o : TermOperation) (a : SortedTerm) → ps ≡ os ++ o ∷ [] → Refuses stop (behind Γ bs o a) → Refuses stop (climbed Γ bs ps (Ok a))
   up_refuses stop os ps o a popped h =
-      along stop _ _ (ap (λ qs. climbed Γ qs (Ok a)) popped ∙ climbed_last os o (Ok a)) (climbed_refuses stop os (behind Γ o a) h)
+      along stop _ _ (ap (λ qs. climbed Γ bs qs (Ok a)) popped ∙ climbed_last os o (Ok a)) (climbed_refuses stop os (behind Γ bs o a) h)
 
 -- ---- sizes
 

@@ -1,5 +1,5 @@
 -- What holds of the terms that names and literals become, and is kept by each form, holds of each term.
-use Rattle.std.proofs.Common.{◌≡◌, Bool, true, false, Option, Some, None, Result, Ok, Err, refl, sym, subst}
+use Rattle.std.proofs.Common.{◌≡◌, Bool, true, false, List, [], ◌∷◌, Option, Some, None, Result, Ok, Err, refl, subst}
 use Rattle.std.specs.Prelude.{ℤ, if◌then◌else◌}
 use Rattle.text_core.specs.declared.name.Name.{Name}
 use Rattle.text_core.specs.declared.refusal.SourceError.{SourceError}
@@ -10,26 +10,28 @@ use Rattle.source_kinds.specs.declared.kinds.Comparison.{Comparison}
 use Rattle.source_kinds.specs.declared.kinds.Comparison.TheVariants.{Eq, Ne, Lt, Le, Gt, Ge}
 use Rattle.source_kinds.specs.Range.{fits}
 use Rattle.source_trees.specs.declared.operator.BinaryTerm.TheVariants.{Implies, Or, And, Compare, Calculate}
+use Rattle.source_trees.specs.declared.operator.Quantifier.TheVariants.{Forall}
 use Rattle.source_trees.specs.declared.operator.UnaryTerm.TheVariants.{Neg, Not, View}
 use Rattle.source_trees.specs.declared.path.Segment.{Segment}
 use Rattle.source_trees.specs.Pterm as T
 use Rattle.source_trees.specs.Pterm.{Pterm}
 use Rattle.source_trees.specs.PtermView.{span_of}
-use Rattle.logic_term.specs.Term.{Term, var, lit, truth as truth_term, model, negative as negative_term, not as not_term, calculate, is_less, is_at_most, is_equal, and as and_term, or as or_term, implies as implies_term}
+use Rattle.logic_term.specs.Term.{Term, var, lit, truth as truth_term, model, negative as negative_term, not as not_term, calculate, is_less, is_at_most, is_equal, and as and_term, or as or_term, implies as implies_term, forall}
 use Rattle.logic_term.specs.Ty.{Ty, int, bool, math_int}
 use Rattle.logic_elab.specs.declared.scope.Symbol.{Symbol}
 use Rattle.logic_elab.specs.declared.sorted.SortedTerm.{SortedTerm}
 use Rattle.logic_elab.specs.Answers.{◌>>=◌, mismatch, pair}
-use Rattle.logic_elab.specs.Elaborated.{sorted, literal, name_alone, symbol_term, symbol_or, name_term, named_term, answer_or, answer_term, model_of_sort, model_of, formula, number, ordered, is_ordering, ordered_at, compared, connected, elaborated}
+use Rattle.logic_elab.specs.Binders.{meant_under, inside, symbols_of, for_all}
+use Rattle.logic_elab.specs.Elaborated.{sorted, literal, name_alone, symbol_or, name_term, named_term, answer_or, answer_term, model_of_sort, model_of, formula, number, ordered, is_ordering, ordered_at, compared, connected, elaborated_under}
 use Rattle.logic_elab.specs.Scope.{Scope}
 use Rattle.logic_elab.specs.Sorts.{same_ty, is_math_int, is_bool}
 use Rattle.logic_elab.proofs.Accepted.{bound, held, yes, same_ok}
 use Rattle.logic_elab.proofs.SameSorts.{equal_types}
 
--- P, of a sort and a term, holds of variables and literals, and each form keeps it
-pub record IsKept (P : Ty → Term → Type 0) (Γ : Scope) : Type 0 where
-  pub variables : (x : Name) (a : Symbol) → Γ.variable x ≡ Some a → P a.sort (var a.name)
-  pub answer : (a : Symbol) → Γ.answer ≡ Some a → P a.sort (var a.name)
+-- under these bound names, P, of a sort and a term, holds of variables and literals, and each form without binders keeps it
+pub record IsKept (P : Ty → Term → Type 0) (Γ : Scope) (bs : List Symbol) : Type 0 where
+  pub variables : (x : Name) (a : Symbol) → meant_under x bs (Γ.variable x) ≡ Some a → P a.sort (var a.name)
+  pub answer : (x : Name) (a : Symbol) → meant_under x bs (answer_or Γ.answer (Γ.variable x)) ≡ Some a → P a.sort (var a.name)
   pub integers : (z : ℤ) → P math_int (lit z math_int)
   pub machine_integers : (z : ℤ) (k : IntKind) → fits k z ≡ true → P (int k) (lit z (int k))
   pub truths : (b : Bool) → P bool (truth_term b)
@@ -52,7 +54,7 @@ int_sort : (t : Ty) → is_math_int t ≡ true → t ≡ math_int
 int_sort math_int e = refl
 int_sort t e = absurd (cc)
 
-module _ (P : Ty → Term → Type 0) (Γ : Scope) (kept : IsKept P Γ) where
+module _ (P : Ty → Term → Type 0) (Γ : Scope) (bs : List Symbol) (kept : IsKept P Γ bs) where
   abbrev Of : SortedTerm → Type 0
   Of a = P a.sort a.term
 
@@ -65,16 +67,15 @@ module _ (P : Ty → Term → Type 0) (Γ : Scope) (kept : IsKept P Γ) where
   variable_holds s None a h p = absurd (cc)
   variable_holds s (Some x) a h p = given x.sort (var x.name) a (h x refl) p
 
-  name_holds : (s : Span) (x : Name) (a : SortedTerm) → name_term Γ s x ≡ Ok a → Of a
-  name_holds s x a p = variable_holds s (Γ.variable x) a (kept.variables x) p
+  name_holds : (s : Span) (x : Name) (a : SortedTerm) → name_term Γ bs s x ≡ Ok a → Of a
+  name_holds s x a p = variable_holds s (meant_under x bs (Γ.variable x)) a (kept.variables x) p
 
-  named_holds : (s : Span) (o : Option Segment) (a : SortedTerm) → named_term Γ s o ≡ Ok a → Of a
+  named_holds : (s : Span) (o : Option Segment) (a : SortedTerm) → named_term Γ bs s o ≡ Ok a → Of a
   named_holds s None a p = absurd (cc)
   named_holds s (Some x) a p = name_holds s x.name a p
 
-  answer_holds : (s : Span) (x : Name) (o : Option Symbol) (a : SortedTerm) → ((y : Symbol) → o ≡ Some y → P y.sort (var y.name)) → answer_or Γ s x o ≡ Ok a → Of a
-  answer_holds s x None a h p = name_holds s x a p
-  answer_holds s x (Some y) a h p = given y.sort (var y.name) a (h y refl) p
+  answer_holds : (s : Span) (x : Name) (a : SortedTerm) → answer_term Γ bs s x ≡ Ok a → Of a
+  answer_holds s x a p = variable_holds s (meant_under x bs (answer_or Γ.answer (Γ.variable x))) a (kept.answer x) p
 
   literal_holds : (s : Span) (z : ℤ) (k : Option IntKind) (a : SortedTerm) → literal s z k ≡ Ok a → Of a
   unfolding literal
@@ -146,42 +147,58 @@ module _ (P : Ty → Term → Type 0) (Γ : Scope) (kept : IsKept P Γ) where
       let a = bound m (formula (span_of t)) u p in
       formula_holds (span_of t) a.0 u (h a.0 a.1) a.2
 
-  -- ---- terms
+-- ---- binders
 
-  pub holds_of_each : (t : Pterm) (r : SortedTerm) → elaborated Γ t ≡ Ok r → Of r
-  holds_of_each (T.integer s z k) r p = literal_holds s z k r p
-  holds_of_each (T.truth s b) r p = given bool (truth_term b) r (kept.truths b) p
-  holds_of_each (T.answer s x) r p = answer_holds s x Γ.answer r kept.answer p
-  holds_of_each (T.path s w) r p = named_holds s (name_alone w.node) r p
-  holds_of_each (T.unary s View t) r p =
-      let a = bound (elaborated Γ t) _ r p in
-      model_holds (span_of t) a.0 r (holds_of_each t a.0 a.1) a.2
-  holds_of_each (T.unary s Neg t) r p =
-      let a = bound (elaborated Γ t) _ r p in
+-- what is kept by each binder is kept by all of a quantifier
+module _ (P : List Symbol → Ty → Term → Type 0) (binds : (bs : List Symbol) (b : Symbol) (t : Term) → P (b ∷ bs) bool t → P bs bool (forall b.name b.sort t)) where
+  for_all_holds : (bs xs : List Symbol) (t : Term) → P (inside bs xs) bool t → P bs bool (for_all xs t)
+  for_all_holds bs [] t h = h
+  for_all_holds bs (x ∷ xs) t h = binds bs x (for_all xs t) (for_all_holds (x ∷ bs) xs t h)
+
+-- ---- terms
+
+module _ (P : List Symbol → Ty → Term → Type 0) (Γ : Scope) (kept : (bs : List Symbol) → IsKept (P bs) Γ bs) (binds : (bs : List Symbol) (b : Symbol) (t : Term) → P (b ∷ bs) bool t → P bs bool (forall b.name b.sort t)) where
+  pub holds_of_each : (bs : List Symbol) (t : Pterm) (r : SortedTerm) → elaborated_under Γ bs t ≡ Ok r → P bs r.sort r.term
+  holds_of_each bs (T.integer s z k) r p = literal_holds (P bs) Γ bs (kept bs) s z k r p
+  holds_of_each bs (T.truth s b) r p = given (P bs) Γ bs (kept bs) bool (truth_term b) r ((kept bs).truths b) p
+  holds_of_each bs (T.answer s x) r p = answer_holds (P bs) Γ bs (kept bs) s x r p
+  holds_of_each bs (T.path s w) r p = named_holds (P bs) Γ bs (kept bs) s (name_alone w.node) r p
+  holds_of_each bs (T.unary s View t) r p =
+      let a = bound (elaborated_under Γ bs t) _ r p in
+      model_holds (P bs) Γ bs (kept bs) (span_of t) a.0 r (holds_of_each bs t a.0 a.1) a.2
+  holds_of_each bs (T.unary s Neg t) r p =
+      let a = bound (elaborated_under Γ bs t) _ r p in
       let x = bound (number (span_of t) a.0) _ r a.2 in
-      given math_int (negative_term x.0) r (kept.negatives x.0 (number_holds (span_of t) a.0 x.0 (holds_of_each t a.0 a.1) x.1)) x.2
-  holds_of_each (T.unary s Not t) r p =
-      let a = bound (elaborated Γ t) _ r p in
+      given (P bs) Γ bs (kept bs) math_int (negative_term x.0) r ((kept bs).negatives x.0 (number_holds (P bs) Γ bs (kept bs) (span_of t) a.0 x.0 (holds_of_each bs t a.0 a.1) x.1)) x.2
+  holds_of_each bs (T.unary s Not t) r p =
+      let a = bound (elaborated_under Γ bs t) _ r p in
       let x = bound (formula (span_of t) a.0) _ r a.2 in
-      given bool (not_term x.0) r (kept.denials x.0 (formula_holds (span_of t) a.0 x.0 (holds_of_each t a.0 a.1) x.1)) x.2
-  holds_of_each (T.binary s (Calculate op) t u) r p =
-      let a = bound (elaborated Γ t) _ r p in
-      let b = bound (elaborated Γ u) _ r a.2 in
+      given (P bs) Γ bs (kept bs) bool (not_term x.0) r ((kept bs).denials x.0 (formula_holds (P bs) Γ bs (kept bs) (span_of t) a.0 x.0 (holds_of_each bs t a.0 a.1) x.1)) x.2
+  holds_of_each bs (T.binary s (Calculate op) t u) r p =
+      let a = bound (elaborated_under Γ bs t) _ r p in
+      let b = bound (elaborated_under Γ bs u) _ r a.2 in
       let x = bound (number (span_of t) a.0) _ r b.2 in
       let y = bound (number (span_of u) b.0) _ r x.2 in
-      given math_int (calculate op x.0 y.0) r
-      (kept.operations op x.0 y.0 (number_holds (span_of t) a.0 x.0 (holds_of_each t a.0 a.1) x.1) (number_holds (span_of u) b.0 y.0 (holds_of_each u b.0 b.1) y.1)) y.2
-  holds_of_each (T.binary s (Compare op) t u) r p =
-      let a = bound (elaborated Γ t) _ r p in
-      let b = bound (elaborated Γ u) _ r a.2 in
-      compared_holds op (span_of t) (span_of u) a.0 b.0 r (holds_of_each t a.0 a.1) (holds_of_each u b.0 b.1) b.2
-  holds_of_each (T.binary s And t u) r p =
-      connected_holds and_term (elaborated Γ t >>= formula (span_of t)) (elaborated Γ u >>= formula (span_of u)) r kept.conjunctions
-      (λ v q. asserted_by t (elaborated Γ t) v (λ a h. holds_of_each t a h) q) (λ v q. asserted_by u (elaborated Γ u) v (λ a h. holds_of_each u a h) q) p
-  holds_of_each (T.binary s Or t u) r p =
-      connected_holds or_term (elaborated Γ t >>= formula (span_of t)) (elaborated Γ u >>= formula (span_of u)) r kept.disjunctions
-      (λ v q. asserted_by t (elaborated Γ t) v (λ a h. holds_of_each t a h) q) (λ v q. asserted_by u (elaborated Γ u) v (λ a h. holds_of_each u a h) q) p
-  holds_of_each (T.binary s Implies t u) r p =
-      connected_holds implies_term (elaborated Γ t >>= formula (span_of t)) (elaborated Γ u >>= formula (span_of u)) r kept.implications
-      (λ v q. asserted_by t (elaborated Γ t) v (λ a h. holds_of_each t a h) q) (λ v q. asserted_by u (elaborated Γ u) v (λ a h. holds_of_each u a h) q) p
-  holds_of_each t r p = absurd (cc)
+      given (P bs) Γ bs (kept bs) math_int (calculate op x.0 y.0) r
+      ((kept bs).operations op x.0 y.0 (number_holds (P bs) Γ bs (kept bs) (span_of t) a.0 x.0 (holds_of_each bs t a.0 a.1) x.1) (number_holds (P bs) Γ bs (kept bs) (span_of u) b.0 y.0 (holds_of_each bs u b.0 b.1) y.1)) y.2
+  holds_of_each bs (T.binary s (Compare op) t u) r p =
+      let a = bound (elaborated_under Γ bs t) _ r p in
+      let b = bound (elaborated_under Γ bs u) _ r a.2 in
+      compared_holds (P bs) Γ bs (kept bs) op (span_of t) (span_of u) a.0 b.0 r (holds_of_each bs t a.0 a.1) (holds_of_each bs u b.0 b.1) b.2
+  holds_of_each bs (T.binary s And t u) r p =
+      connected_holds (P bs) Γ bs (kept bs) and_term (elaborated_under Γ bs t >>= formula (span_of t)) (elaborated_under Γ bs u >>= formula (span_of u)) r (kept bs).conjunctions
+      (λ v q. asserted_by (P bs) Γ bs (kept bs) t (elaborated_under Γ bs t) v (λ a h. holds_of_each bs t a h) q) (λ v q. asserted_by (P bs) Γ bs (kept bs) u (elaborated_under Γ bs u) v (λ a h. holds_of_each bs u a h) q) p
+  holds_of_each bs (T.binary s Or t u) r p =
+      connected_holds (P bs) Γ bs (kept bs) or_term (elaborated_under Γ bs t >>= formula (span_of t)) (elaborated_under Γ bs u >>= formula (span_of u)) r (kept bs).disjunctions
+      (λ v q. asserted_by (P bs) Γ bs (kept bs) t (elaborated_under Γ bs t) v (λ a h. holds_of_each bs t a h) q) (λ v q. asserted_by (P bs) Γ bs (kept bs) u (elaborated_under Γ bs u) v (λ a h. holds_of_each bs u a h) q) p
+  holds_of_each bs (T.binary s Implies t u) r p =
+      connected_holds (P bs) Γ bs (kept bs) implies_term (elaborated_under Γ bs t >>= formula (span_of t)) (elaborated_under Γ bs u >>= formula (span_of u)) r (kept bs).implications
+      (λ v q. asserted_by (P bs) Γ bs (kept bs) t (elaborated_under Γ bs t) v (λ a h. holds_of_each bs t a h) q) (λ v q. asserted_by (P bs) Γ bs (kept bs) u (elaborated_under Γ bs u) v (λ a h. holds_of_each bs u a h) q) p
+  holds_of_each bs (T.quantified s Forall xs t) r p =
+      let ys = bound (symbols_of xs) _ r p in
+      let a = bound (elaborated_under Γ (inside bs ys.0) t) _ r ys.2 in
+      let f = bound (formula (span_of t) a.0) _ r a.2 in
+      let under = inside bs ys.0 in
+      given (P bs) Γ bs (kept bs) bool (for_all ys.0 f.0) r
+      (for_all_holds P binds bs ys.0 f.0 (formula_holds (P under) Γ under (kept under) (span_of t) a.0 f.0 (holds_of_each under t a.0 a.1) f.1)) f.2
+  holds_of_each bs t r p = absurd (cc)

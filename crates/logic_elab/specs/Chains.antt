@@ -18,7 +18,8 @@ use Rattle.logic_elab.specs.declared.chain.TermOperation.{TermOperation}
 use Rattle.logic_elab.specs.declared.chain.TermOperation.TheVariants as operation
 use Rattle.logic_elab.specs.Answers.{◌>>=◌}
 use Rattle.logic_elab.specs.Scope.{Scope}
-use Rattle.logic_elab.specs.Elaborated.{asserted, compared, elaborated, formula, model_of, number, sorted}
+use Rattle.logic_elab.specs.declared.scope.Symbol.{Symbol}
+use Rattle.logic_elab.specs.Elaborated.{asserted_under, compared, elaborated_under, formula, model_of, number, sorted}
 
 -- whether the term is an operation that has a left operand
 abbrev pub has_left : Pterm → Bool
@@ -57,19 +58,19 @@ connection connective.Or = or_term
 connection connective.Implies = implies_term
 
 -- what the operation becomes behind its left operand
-abbrev pub behind : Scope → TermOperation → SortedTerm → Result SortedTerm SourceError
-behind Γ (operation.View t) a = model_of (span_of t.now) a
-behind Γ (operation.Calculate op t u) a = elaborated Γ u.now >>= calculated op (span_of t.now) (span_of u.now) a
-behind Γ (operation.Compare op t u) a = elaborated Γ u.now >>= compared op (span_of t.now) (span_of u.now) a
-behind Γ (operation.Connect op t u) a = do
+abbrev pub behind : Scope → List Symbol → TermOperation → SortedTerm → Result SortedTerm SourceError
+behind Γ bs (operation.View t) a = model_of (span_of t.now) a
+behind Γ bs (operation.Calculate op t u) a = elaborated_under Γ bs u.now >>= calculated op (span_of t.now) (span_of u.now) a
+behind Γ bs (operation.Compare op t u) a = elaborated_under Γ bs u.now >>= compared op (span_of t.now) (span_of u.now) a
+behind Γ bs (operation.Connect op t u) a = do
   x ← formula (span_of t.now) a
-  y ← asserted Γ u.now
+  y ← asserted_under Γ bs u.now
   Ok (sorted bool (connection op x y))
 
 -- what the outermost of these operations becomes, from the left operand of the innermost
-abbrev pub climbed : Scope → List TermOperation → Result SortedTerm SourceError → Result SortedTerm SourceError
-climbed Γ [] m = m
-climbed Γ (o ∷ os) m = climbed Γ os m >>= behind Γ o
+abbrev pub climbed : Scope → List Symbol → List TermOperation → Result SortedTerm SourceError → Result SortedTerm SourceError
+climbed Γ bs [] m = m
+climbed Γ bs (o ∷ os) m = climbed Γ bs os m >>= behind Γ bs o
 
 -- more than the size of the right operand, where there is one
 abbrev pub operation_size : TermOperation → ℕ

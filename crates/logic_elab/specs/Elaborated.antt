@@ -1,6 +1,6 @@
 -- The terms that the terms of contracts become, with their sorts (Pearlite, Creusot). Literals without suffix and all
--- arithmetic are of the unbounded integers.
-use Rattle.std.specs.Prelude.{ℤ, Bool, true, false, [], Option, Some, None, Result, Ok, Err, if◌then◌else◌}
+-- arithmetic are of the unbounded integers. A term stands in a scope, under what quantifiers around it bind.
+use Rattle.std.specs.Prelude.{ℤ, Bool, true, false, List, [], Option, Some, None, Result, Ok, Err, if◌then◌else◌}
 use Rattle.text_core.specs.declared.name.Name.{Name}
 use Rattle.text_core.specs.declared.refusal.SourceError.{SourceError}
 use Rattle.text_core.specs.declared.span.Span.{Span}
@@ -11,6 +11,7 @@ use Rattle.logic_term.specs.Ty.{Ty, int, bool, math_int}
 use Rattle.source_kinds.specs.declared.kinds.Comparison.{Comparison}
 use Rattle.source_kinds.specs.declared.kinds.Comparison.TheVariants.{Eq, Ne, Lt, Le, Gt, Ge}
 use Rattle.source_trees.specs.declared.operator.BinaryTerm.TheVariants.{Implies, Or, And, Compare, Calculate}
+use Rattle.source_trees.specs.declared.operator.Quantifier.TheVariants.{Forall}
 use Rattle.source_trees.specs.declared.operator.UnaryTerm.TheVariants.{Neg, Not, View}
 use Rattle.source_trees.specs.declared.path.Segment.{Segment}
 use Rattle.source_trees.specs.Pterm as T
@@ -18,6 +19,7 @@ use Rattle.source_trees.specs.Pterm.{Pterm}
 use Rattle.source_trees.specs.PtermView.{span_of}
 use Rattle.logic_elab.specs.declared.sorted.SortedTerm.{SortedTerm}
 use Rattle.logic_elab.specs.Answers.{◌>>=◌, unknown_name, mismatch, unbuilt, wanted, pair}
+use Rattle.logic_elab.specs.Binders.{meant_under, inside, symbols_of, for_all}
 use Rattle.logic_elab.specs.Scope.{Scope}
 use Rattle.logic_elab.specs.Sorts.{same_ty, is_math_int, is_bool}
 use Rattle.logic_elab.specs.declared.scope.Symbol.{Symbol}
@@ -43,20 +45,21 @@ abbrev pub symbol_or : Span → Option Symbol → Result SortedTerm SourceError
 symbol_or s None = Err (unknown_name s)
 symbol_or s (Some x) = Ok (symbol_term x)
 
-abbrev pub name_term : Scope → Span → Name → Result SortedTerm SourceError
-name_term Γ s x = symbol_or s (Γ.variable x)
+abbrev pub name_term : Scope → List Symbol → Span → Name → Result SortedTerm SourceError
+name_term Γ bs s x = symbol_or s (meant_under x bs (Γ.variable x))
 
-abbrev pub named_term : Scope → Span → Option Segment → Result SortedTerm SourceError
-named_term Γ s None = Err (unbuilt s)
-named_term Γ s (Some x) = name_term Γ s x.name
+abbrev pub named_term : Scope → List Symbol → Span → Option Segment → Result SortedTerm SourceError
+named_term Γ bs s None = Err (unbuilt s)
+named_term Γ bs s (Some x) = name_term Γ bs s x.name
 
--- `result` by its name: the answer, where it is spoken of; else a variable as each other name
-abbrev pub answer_or : Scope → Span → Name → Option Symbol → Result SortedTerm SourceError
-answer_or Γ s x None = name_term Γ s x
-answer_or Γ s x (Some a) = Ok (symbol_term a)
+-- `result` outside of all binders, by its name: the answer, where it is spoken of; else a variable as each other name
+abbrev pub answer_or : Option Symbol → Option Symbol → Option Symbol
+answer_or None o = o
+answer_or (Some a) o = Some a
 
-abbrev pub answer_term : Scope → Span → Name → Result SortedTerm SourceError
-answer_term Γ s x = answer_or Γ s x Γ.answer
+-- a binder of this name hides the answer, too
+abbrev pub answer_term : Scope → List Symbol → Span → Name → Result SortedTerm SourceError
+answer_term Γ bs s x = symbol_or s (meant_under x bs (answer_or Γ.answer (Γ.variable x)))
 
 -- the unbounded integer of a machine integer
 abbrev pub model_of_sort : Ty → Span → Term → Result SortedTerm SourceError
@@ -103,37 +106,49 @@ abbrev pub connected : (Term → Term → Term) → Term × Term → Result Sort
 connected op p = Ok (sorted bool (op p.0 p.1))
 
 -- the term over what its names mean; what has no row is not built
-abbrev pub elaborated : Scope → Pterm → Result SortedTerm SourceError
-elaborated Γ (T.integer s z k) = literal s z k
-elaborated Γ (T.truth s b) = Ok (sorted bool (truth_term b))
-elaborated Γ (T.answer s x) = answer_term Γ s x
-elaborated Γ (T.path s p) = named_term Γ s (name_alone p.node)
-elaborated Γ (T.unary s View t) = do
-  a ← elaborated Γ t
+abbrev pub elaborated_under : Scope → List Symbol → Pterm → Result SortedTerm SourceError
+elaborated_under Γ bs (T.integer s z k) = literal s z k
+elaborated_under Γ bs (T.truth s b) = Ok (sorted bool (truth_term b))
+elaborated_under Γ bs (T.answer s x) = answer_term Γ bs s x
+elaborated_under Γ bs (T.path s p) = named_term Γ bs s (name_alone p.node)
+elaborated_under Γ bs (T.unary s View t) = do
+  a ← elaborated_under Γ bs t
   model_of (span_of t) a
-elaborated Γ (T.unary s Neg t) = do
-  a ← elaborated Γ t
+elaborated_under Γ bs (T.unary s Neg t) = do
+  a ← elaborated_under Γ bs t
   x ← number (span_of t) a
   Ok (sorted math_int (negative_term x))
-elaborated Γ (T.unary s Not t) = do
-  a ← elaborated Γ t
+elaborated_under Γ bs (T.unary s Not t) = do
+  a ← elaborated_under Γ bs t
   p ← formula (span_of t) a
   Ok (sorted bool (not_term p))
-elaborated Γ (T.binary s (Calculate op) t u) = do
-  a ← elaborated Γ t
-  b ← elaborated Γ u
+elaborated_under Γ bs (T.binary s (Calculate op) t u) = do
+  a ← elaborated_under Γ bs t
+  b ← elaborated_under Γ bs u
   x ← number (span_of t) a
   y ← number (span_of u) b
   Ok (sorted math_int (calculate op x y))
-elaborated Γ (T.binary s (Compare op) t u) = do
-  a ← elaborated Γ t
-  b ← elaborated Γ u
+elaborated_under Γ bs (T.binary s (Compare op) t u) = do
+  a ← elaborated_under Γ bs t
+  b ← elaborated_under Γ bs u
   compared op (span_of t) (span_of u) a b
-elaborated Γ (T.binary s And t u) = pair (elaborated Γ t >>= formula (span_of t)) (elaborated Γ u >>= formula (span_of u)) >>= connected and_term
-elaborated Γ (T.binary s Or t u) = pair (elaborated Γ t >>= formula (span_of t)) (elaborated Γ u >>= formula (span_of u)) >>= connected or_term
-elaborated Γ (T.binary s Implies t u) = pair (elaborated Γ t >>= formula (span_of t)) (elaborated Γ u >>= formula (span_of u)) >>= connected implies_term
-elaborated Γ t = Err (unbuilt (span_of t))
+elaborated_under Γ bs (T.binary s And t u) = pair (elaborated_under Γ bs t >>= formula (span_of t)) (elaborated_under Γ bs u >>= formula (span_of u)) >>= connected and_term
+elaborated_under Γ bs (T.binary s Or t u) = pair (elaborated_under Γ bs t >>= formula (span_of t)) (elaborated_under Γ bs u >>= formula (span_of u)) >>= connected or_term
+elaborated_under Γ bs (T.binary s Implies t u) = pair (elaborated_under Γ bs t >>= formula (span_of t)) (elaborated_under Γ bs u >>= formula (span_of u)) >>= connected implies_term
+elaborated_under Γ bs (T.quantified s Forall xs t) = do
+  ys ← symbols_of xs
+  a ← elaborated_under Γ (inside bs ys) t
+  p ← formula (span_of t) a
+  Ok (sorted bool (for_all ys p))
+elaborated_under Γ bs t = Err (unbuilt (span_of t))
+
+-- the term where no quantifier stands around it
+abbrev pub elaborated : Scope → Pterm → Result SortedTerm SourceError
+elaborated Γ t = elaborated_under Γ [] t
 
 -- a term that is a formula
+abbrev pub asserted_under : Scope → List Symbol → Pterm → Result Term SourceError
+asserted_under Γ bs t = elaborated_under Γ bs t >>= formula (span_of t)
+
 abbrev pub asserted : Scope → Pterm → Result Term SourceError
 asserted Γ t = elaborated Γ t >>= formula (span_of t)

@@ -1,4 +1,5 @@
 pub mod Answers
+pub mod Binders
 pub mod Chains
 pub mod Elaborated
 pub mod Laws

@@ -1,12 +1,13 @@
 //! Chains of operations in terms. They group to the left, so that a chain is as deep as it is long: its left operands are gone down by
 //! a loop, and what stands above them waits on a stack.
-ghost use Rattle.std.specs.Prelude.{◌≡◌, ◌≤◌, false, IfOk, MatchOption};
+ghost use Rattle.std.specs.Prelude.{◌≡◌, ◌≤◌, false, List, IfOk, MatchOption};
 ghost use Rattle.text_core.specs.declared.span.Span.{Span};
 ghost use Rattle.source_trees.specs.Pterm.{binary};
 ghost use Rattle.source_trees.specs.PtermView.{pterm_size, span_of};
 ghost use Rattle.logic_elab.specs.Scope.{Scope};
 ghost use Rattle.logic_elab.specs.Chains.{climbed, has_left, left_of, operations_size, written};
-ghost use Rattle.logic_elab.specs.Elaborated.{elaborated};
+ghost use Rattle.logic_elab.specs.declared.scope.Symbol.{Symbol};
+ghost use Rattle.logic_elab.specs.Elaborated.{elaborated_under};
 
 use source_kinds::{ArithOp, Comparison};
 use source_trees::{BinaryTerm, Pterm, PtermNode, UnaryTerm};
@@ -74,7 +75,7 @@ fn left_of<'a>(operation: &TermOperation<'a>) -> &'a Pterm
 
 /// Goes down the left operands.
 pub(crate) fn descend<'a>(alloc: Global, t: &'a Pterm) -> Result<TermDescent<'a>, NoMemory>
-    ensures elaborated { IfOk result (λ d. (Γ : Scope) → elaborated Γ t.now ≡ climbed Γ d.operations.items (elaborated Γ d.bottom.now)) }
+    ensures elaborated { IfOk result (λ d. (Γ : Scope) (bs : List Symbol) → elaborated_under Γ bs t.now ≡ climbed Γ bs d.operations.items (elaborated_under Γ bs d.bottom.now)) }
     ensures bottom { IfOk result (λ d. has_left d.bottom.now ≡ false) }
     ensures smaller { IfOk result (λ d. pterm_size d.bottom.now ≤ pterm_size t.now) }
     ensures operations { IfOk result (λ d. operations_size d.operations.items ≤ pterm_size t.now) }

@@ -1,11 +1,16 @@
-ghost use Rattle.std.specs.Prelude.{◌≡◌, false, IfOk};
+ghost use Rattle.std.specs.Prelude.{◌≡◌, false, [], IfOk};
+ghost use Rattle.text_core.specs.declared.span.Span.{Span};
 ghost use Rattle.logic_term.specs.Term.{model, truth};
 ghost use Rattle.logic_term.specs.Ty.{bool, math_int};
+ghost use Rattle.source_trees.specs.declared.operator.Quantifier.TheVariants.{Forall};
+ghost use Rattle.source_trees.specs.Pterm.{quantified};
 ghost use Rattle.source_trees.specs.PtermView.{span_of};
 ghost use Rattle.logic_elab.specs.Answers.{Answers};
+ghost use Rattle.logic_elab.specs.Binders.{inside};
 ghost use Rattle.logic_elab.specs.Chains.{behind, calculated, connection, has_left};
-ghost use Rattle.logic_elab.specs.Elaborated.{sorted, literal, name_alone, symbol_term, symbol_or, name_term, named_term, answer_term, model_of, formula, number, ordered, is_ordering, ordered_at, compared, elaborated, asserted};
+ghost use Rattle.logic_elab.specs.Elaborated.{sorted, literal, name_alone, symbol_term, symbol_or, name_term, named_term, answer_or, answer_term, model_of, formula, number, ordered, is_ordering, ordered_at, compared, elaborated, asserted, elaborated_under, asserted_under};
 
+use crate::binders::{for_all, meant_under, symbols_inside, symbols_of};
 use crate::chain::{Connective, TermDescent, TermOperation, descend};
 use crate::refusal::{mismatch, unbuilt, unknown_name};
 use crate::scope::{Symbol, TermScope};
@@ -13,7 +18,7 @@ use crate::sorted::SortedTerm;
 use crate::sorts::{fits, is_bool, is_math_int, same_ty};
 use logic_term::{Term, Ty, TyNode};
 use source_kinds::{ArithOp, Comparison, IntKind};
-use source_trees::{Path, PathNode, Pterm, PtermNode, Segment, UnaryTerm};
+use source_trees::{Binder, Path, PathNode, Pterm, PtermNode, Quantifier, Segment, UnaryTerm};
 use std::alloc::Global;
 use text_core::{Boxed, Name, NoMemory, PassError, Span};
 
@@ -103,46 +108,58 @@ fn symbol_or(alloc: Global, span: Span, symbol: Option<Symbol>) -> Result<Sorted
     }
 }
 
+/// A name, under these bound ones, the outermost first.
 fn name_term<S: TermScope>(
     alloc: Global,
     scope: &S,
+    bound: &[Symbol],
     span: Span,
     name: Name,
 ) -> Result<SortedTerm, PassError>
-    ensures { Answers result (name_term (S.scope scope.now) span name) }
+    ensures { Answers result (name_term (S.scope scope.now) (inside [] bound.now) span name) }
 {
-    let symbol = scope.variable(alloc, name)?;
-    symbol_or(alloc, span, symbol)
+    let outside = scope.variable(alloc, name)?;
+    symbol_or(alloc, span, meant_under(alloc, name, bound, outside)?)
 }
 
 /// A name as a term.
 fn named_term<S: TermScope>(
     alloc: Global,
     scope: &S,
+    bound: &[Symbol],
     span: Span,
     name: Option<Segment>,
 ) -> Result<SortedTerm, PassError>
-    ensures { Answers result (named_term (S.scope scope.now) span name) }
+    ensures { Answers result (named_term (S.scope scope.now) (inside [] bound.now) span name) }
 {
     match name {
         None => Err(unbuilt(span)),
-        Some(name) => name_term(alloc, scope, span, name.name),
+        Some(name) => name_term(alloc, scope, bound, span, name.name),
     }
 }
 
-/// `result`: the answer where it is spoken of, else a variable.
+/// What `result` means where nothing is bound: the answer where it is spoken of, else a variable.
+fn answer_or<S: TermScope>(alloc: Global, scope: &S, name: Name) -> Result<Option<Symbol>, NoMemory>
+    ensures { IfOk result (λ o. o ≡ answer_or (S.scope scope.now).answer ((S.scope scope.now).variable name)) }
+{
+    match scope.answer(alloc)? {
+        Some(symbol) => Ok(Some(symbol)),
+        None => scope.variable(alloc, name),
+    }
+}
+
+/// `result`
 fn answer_term<S: TermScope>(
     alloc: Global,
     scope: &S,
+    bound: &[Symbol],
     span: Span,
     name: Name,
 ) -> Result<SortedTerm, PassError>
-    ensures { Answers result (answer_term (S.scope scope.now) span name) }
+    ensures { Answers result (answer_term (S.scope scope.now) (inside [] bound.now) span name) }
 {
-    match scope.answer(alloc)? {
-        Some(symbol) => Ok(symbol_term(alloc, symbol)?),
-        None => name_term(alloc, scope, span, name),
-    }
+    let outside = answer_or(alloc, scope, name)?;
+    symbol_or(alloc, span, meant_under(alloc, name, bound, outside)?)
 }
 
 /// `t@`
@@ -292,19 +309,44 @@ fn connected(
 
 /// The term that a written term becomes where it stands, with its sort (Pearlite, Creusot). Left operands are gone down by a loop.
 ///
-/// Errors: `Source` by E05 at a name that means nothing, by E07 at a part that is of another sort, by E20 at a form that is not built;
-/// the first part that is refused refuses the whole. `NoMemory`. Never `Limit`.
-#[cycle(elaborate)]
+/// Errors: `Source` by E05 at a name that means nothing, by E06 at a name that a quantifier binds twice, by E07 at a part that is of another
+/// sort, by E20 at a form that is not built; the first part that is refused refuses the whole. `NoMemory`. Never `Limit`.
 pub fn elaborate<S: TermScope>(alloc: Global, scope: &S, t: &Pterm) -> Result<SortedTerm, PassError>
     ensures { Answers result (elaborated (S.scope scope.now) t.now) }
+{
+    elaborate_under(alloc, scope, &[], t)
+}
+
+/// The formula that a written term becomes.
+///
+/// Errors: those of `elaborate`, and E07 at a term that is no formula.
+pub fn elaborate_formula<S: TermScope>(
+    alloc: Global,
+    scope: &S,
+    t: &Pterm,
+) -> Result<Boxed<Term>, PassError>
+    ensures { Answers result (asserted (S.scope scope.now) t.now) }
+{
+    elaborate_formula_under(alloc, scope, &[], t)
+}
+
+/// The term under these bound names, the outermost first.
+#[cycle(elaborate)]
+fn elaborate_under<S: TermScope>(
+    alloc: Global,
+    scope: &S,
+    bound: &[Symbol],
+    t: &Pterm,
+) -> Result<SortedTerm, PassError>
+    ensures { Answers result (elaborated_under (S.scope scope.now) (inside [] bound.now) t.now) }
 {
     let TermDescent {
         mut operations,
         bottom,
     } = descend(alloc, t)?;
-    let mut made = elaborate_form(alloc, scope, bottom)?;
+    let mut made = elaborate_form(alloc, scope, bound, bottom)?;
     while let Some(operation) = operations.pop() {
-        made = elaborate_behind(alloc, scope, operation, made)?;
+        made = elaborate_behind(alloc, scope, bound, operation, made)?;
     }
     Ok(made)
 }
@@ -314,23 +356,27 @@ pub fn elaborate<S: TermScope>(alloc: Global, scope: &S, t: &Pterm) -> Result<So
 fn elaborate_form<S: TermScope>(
     alloc: Global,
     scope: &S,
+    bound: &[Symbol],
     t: &Pterm,
 ) -> Result<SortedTerm, PassError>
     requires { has_left t.now ≡ false }
-    ensures { Answers result (elaborated (S.scope scope.now) t.now) }
+    ensures { Answers result (elaborated_under (S.scope scope.now) (inside [] bound.now) t.now) }
 {
     match &*t.node {
         PtermNode::Int(number, kind) => literal(alloc, *number, *kind, t.span),
         PtermNode::Truth(holds) => Ok(truth_term(alloc, *holds)?),
-        PtermNode::Answer(name) => answer_term(alloc, scope, t.span, *name),
-        PtermNode::Path(path) => named_term(alloc, scope, t.span, name_alone(path)),
+        PtermNode::Answer(name) => answer_term(alloc, scope, bound, t.span, *name),
+        PtermNode::Path(path) => named_term(alloc, scope, bound, t.span, name_alone(path)),
         PtermNode::Unary(UnaryTerm::Neg, a) => {
-            let a = number(span_of(a), elaborate(alloc, scope, a)?)?;
+            let a = number(span_of(a), elaborate_under(alloc, scope, bound, a)?)?;
             Ok(number_of_sort(alloc, Term::negative(alloc, a.into_inner())?)?)
         }
         PtermNode::Unary(UnaryTerm::Not, a) => {
-            let a = elaborate_formula(alloc, scope, a)?;
+            let a = elaborate_formula_under(alloc, scope, bound, a)?;
             Ok(formula_of_sort(alloc, Term::not(alloc, a.into_inner())?)?)
+        }
+        PtermNode::Quantified(Quantifier::Forall, binders, body) => {
+            elaborate_forall(alloc, scope, bound, binders, body)
         }
         PtermNode::Unary(UnaryTerm::View, _) | PtermNode::Binary(_, _, _) => unreachable!(),
         PtermNode::Unary(UnaryTerm::Current | UnaryTerm::Final, _)
@@ -344,9 +390,26 @@ fn elaborate_form<S: TermScope>(
         | PtermNode::Tuple(_)
         | PtermNode::If(_, _, _)
         | PtermNode::Match(_, _)
-        | PtermNode::Quantified(_, _, _)
+        | PtermNode::Quantified(Quantifier::Exists, _, _)
         | PtermNode::Predicate(_, _) => Err(unbuilt(t.span)),
     }
+}
+
+/// `forall`, with its binders and its body.
+#[cycle(elaborate)]
+fn elaborate_forall<S: TermScope>(
+    alloc: Global,
+    scope: &S,
+    bound: &[Symbol],
+    binders: &[Binder],
+    body: &Pterm,
+) -> Result<SortedTerm, PassError>
+    ensures { (s : Span) → Answers result (elaborated_under (S.scope scope.now) (inside [] bound.now) (quantified s Forall binders.now body.now)) }
+{
+    let symbols = symbols_of(alloc, binders)?;
+    let inner = symbols_inside(alloc, bound, symbols.as_slice())?;
+    let formula = elaborate_formula_under(alloc, scope, inner.as_slice(), body)?;
+    Ok(formula_of_sort(alloc, for_all(alloc, symbols, formula.into_inner())?)?)
 }
 
 /// The operation, whose left operand is elaborated.
@@ -354,39 +417,39 @@ fn elaborate_form<S: TermScope>(
 fn elaborate_behind<S: TermScope>(
     alloc: Global,
     scope: &S,
+    bound: &[Symbol],
     operation: TermOperation<'_>,
     left: SortedTerm,
 ) -> Result<SortedTerm, PassError>
-    ensures { Answers result (behind (S.scope scope.now) operation.entry left) }
+    ensures { Answers result (behind (S.scope scope.now) (inside [] bound.now) operation.entry left) }
 {
     match operation {
         TermOperation::View(t) => model_of(alloc, span_of(t), left),
         TermOperation::Calculate(op, t, u) => {
-            let right = elaborate(alloc, scope, u)?;
+            let right = elaborate_under(alloc, scope, bound, u)?;
             calculated(alloc, op, (span_of(t), span_of(u)), left, right)
         }
         TermOperation::Compare(op, t, u) => {
-            let right = elaborate(alloc, scope, u)?;
+            let right = elaborate_under(alloc, scope, bound, u)?;
             compared(alloc, op, (span_of(t), span_of(u)), left, right)
         }
         TermOperation::Connect(op, t, u) => {
             let left = formula(span_of(t), left)?;
-            let right = elaborate_formula(alloc, scope, u)?;
+            let right = elaborate_formula_under(alloc, scope, bound, u)?;
             Ok(connected(alloc, op, left, right)?)
         }
     }
 }
 
-/// The formula that a written term becomes.
-///
-/// Errors: those of `elaborate`, and E07 at a term that is no formula.
+/// The formula under these bound names, the outermost first.
 #[cycle(elaborate)]
-pub fn elaborate_formula<S: TermScope>(
+fn elaborate_formula_under<S: TermScope>(
     alloc: Global,
     scope: &S,
+    bound: &[Symbol],
     t: &Pterm,
 ) -> Result<Boxed<Term>, PassError>
-    ensures { Answers result (asserted (S.scope scope.now) t.now) }
+    ensures { Answers result (asserted_under (S.scope scope.now) (inside [] bound.now) t.now) }
 {
-    formula(span_of(t), elaborate(alloc, scope, t)?)
+    formula(span_of(t), elaborate_under(alloc, scope, bound, t)?)
 }

@@ -1,6 +1,7 @@
 //! Terms of contracts and of proofs: what they become where they stand.
 #![tactic(auto)]
 
+mod binders;
 mod chain;
 mod elaborating;
 mod laws;

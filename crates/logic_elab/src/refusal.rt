@@ -1,6 +1,7 @@
 ghost use Rattle.std.specs.Prelude.{◌≡◌, None};
 ghost use Rattle.text_core.specs.declared.fault.PassError.TheVariants as fault;
 ghost use Rattle.logic_elab.specs.Answers.{unknown_name, mismatch, unbuilt};
+ghost use Rattle.logic_elab.specs.Binders.{double_name};
 
 use text_core::{Code, PassError, SourceError, Span};
 
@@ -33,4 +34,11 @@ pub(crate) fn unbuilt(span: Span) -> PassError
     ensures { result ≡ fault.Source (unbuilt span) }
 {
     refusal(Code::E20, span)
+}
+
+/// A name twice among the binders of a quantifier.
+pub(crate) fn double_name(span: Span) -> PassError
+    ensures { result ≡ fault.Source (double_name span) }
+{
+    refusal(Code::E06, span)
 }

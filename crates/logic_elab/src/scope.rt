@@ -13,6 +13,18 @@ pub struct Symbol {
     pub sort: Sort,
 }
 
+impl Symbol {
+    pub(crate) fn copy(&self, alloc: Global) -> Result<Symbol, NoMemory>
+        ensures { IfOk result (λ s. s ≡ self.now) }
+    {
+        let sort = self.sort.copy(alloc)?;
+        Ok(Symbol {
+            name: self.name,
+            sort,
+        })
+    }
+}
+
 /// What the names of a term mean where it stands.
 pub trait TermScope {
     // What each name means, and the word for the answer of a function.

@@ -267,7 +267,7 @@ fn lines_but_comments_are_utf_8(rt: HostRuntime) {
 }
 
 /// Words of rules with another rest than theirs, and words of no step.
-const BAD_RULES: [&str; 52] = [
+const BAD_RULES: [&str; 79] = [
     "refl 1.1",
     "true ",
     "left 1.1",
@@ -318,11 +318,39 @@ const BAD_RULES: [&str; 52] = [
     "cut z; w",
     "on",
     "on )",
+    // One space, and nothing around the term.
+    "cut  z@ < 0",
+    "cut z@ < 0 ",
+    "cut z@ < 0 // a comment",
+    "cut /* a comment */ z@ < 0",
+    "cut \tz@ < 0",
+    "on  z",
+    "range",
+    "range ",
+    "range  x",
+    "range x ",
+    "range x y",
+    "range fn",
+    "div",
+    "div a",
+    "div a;b",
+    "div a ;b",
+    "div a  ; b",
+    "div a ;  b",
+    "div a ; b ; c",
+    "inst",
+    "inst 1.1",
+    "inst 1.1 ",
+    "inst 1.1  x",
+    "inst 1.1 x ",
+    "inst x",
+    "inst 1 x",
+    "inst 1.1 x; y",
     "back",
     "back 1.1 1.2",
 ];
 
-const RULES: [&str; 24] = [
+const RULES: [&str; 30] = [
     "refl",
     "true",
     "left",
@@ -346,6 +374,12 @@ const RULES: [&str; 24] = [
     "rewrite < 4294967295.0 in 1.1",
     "cut z@ < 0",
     "on !(a && b) || f(c).d",
+    "on z /* a comment */ < 0",
+    "range x",
+    "range x + 1",
+    "div a@ + 1 ; b",
+    "inst 1.1 x",
+    "inst 0.2 x@ + 1",
     "back 1.1",
 ];
 

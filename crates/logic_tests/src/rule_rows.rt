@@ -319,7 +319,7 @@ fn expect_refused(rt: &impl Abort, alloc: Global, rows: &[(&str, &str, u32)]) ->
 
 // ---- by a term, and back to machine integers
 
-const BY_TERM: [(&str, &str); 8] = [
+const BY_TERM: [(&str, &str); 25] = [
     ("ZW><z0<z0", "intro z w\ncut z < 0\nhyp 1.1\nhyp 2.1\n"),
     (
         "ZW><z0<z0",
@@ -341,16 +341,64 @@ const BY_TERM: [(&str, &str); 8] = [
         "Z|<z0!<z0",
         "intro z\non z /* a comment */ < 0\nleft\nhyp 2.1\nright\nhyp 2.1\n",
     ),
+    // What is bound is not the variable of that name.
+    (
+        "ZW><z0<z0",
+        "intro z w\ncut forall<z: Int, w: bool> w ==> z <= z\nintro k b\nlin 1:goal\nhyp 1.1\n",
+    ),
     ("XY>=@x@y=xy", "intro x y\nback 1.1\nhyp 2.1\n"),
     ("XY>=@x@y=yx", "intro x y\nback 1.1\nrewrite 2.1\nrefl\n"),
+    // The bounds of a variable under another name, and of a literal, whose `@` is the number.
+    ("XlL@x", "intro y\nrange y\nhyp 2.1\n"),
+    ("Xl@xH", "intro y\nrange y\nhyp 2.2\n"),
+    ("lL5", "range 5i32\nhyp 1.1\n"),
+    ("l5H", "range 5i32\nhyp 1.2\n"),
+    // What a division of z by w says, one hypothesis after the other.
+    (
+        "ZW>!=w0=z+*w/zw%zw",
+        "intro z w\ndiv z ; w\nmp 2.1 1.1\nhyp 3.1\n",
+    ),
+    (
+        "ZW>&l0z!=w0l0%zw",
+        "intro z w\ndiv z ; w\nmp 2.2 1.1\nhyp 3.1\n",
+    ),
+    (
+        "ZW>&lz0!=w0l%zw0",
+        "intro z w\ndiv z ; w\nmp 2.3 1.1\nhyp 3.1\n",
+    ),
+    (
+        "ZW><0w&<_w%zw<%zww",
+        "intro z w\ndiv z ; w\nmp 2.4 1.1\nhyp 3.1\n",
+    ),
+    (
+        "ZW><w0&<w%zw<%zw_w",
+        "intro z w\ndiv z ; w\nmp 2.5 1.1\nhyp 3.1\n",
+    ),
+    (
+        "X>!=20=@x+*2/@x2%@x2",
+        "intro x\ndiv x@ ; 2\nmp 2.1 1.1\nhyp 3.1\n",
+    ),
+    // At a variable, a number and a literal; what is left quantified; and of two that bind one name the inner one.
+    ("W>Z<z1<w1", "intro w\ninst 1.1 w\nhyp 2.1\n"),
+    ("W>Z<z1<+w21", "intro w\ninst 1.1 w + 2\nhyp 2.1\n"),
+    (">X<@x1<51", "intro\ninst 1.1 5i32\nhyp 2.1\n"),
+    (">ZW<zw<12", "intro\ninst 1.1 1\ninst 2.1 2\nhyp 3.1\n"),
+    (">ZZ<z1<21", "intro\ninst 1.1 1\ninst 2.1 2\nhyp 3.1\n"),
+    // The inner quantifier binds the name of the term, and does not capture it.
+    ("Z>WZ<wzW<zw", "intro z\ninst 1.1 z\nhyp 2.1\n"),
 ];
 
-const NOT_BY_TERM: [(&str, &str, u32); 11] = [
+const NOT_BY_TERM: [(&str, &str, u32); 27] = [
     // No formula, a name of no variable, other sorts.
     ("ZW><z0<z0", "intro z w\ncut z\n", 2),
     ("ZW><z0<z0", "intro z w\ncut q < 0\n", 2),
     ("XZ><z0<z0", "intro x z\ncut x < z\n", 2),
     ("ZW><z0<z0", "intro z w\non z + 1\n", 2),
+    (
+        "ZW><z0<z0",
+        "intro z w\ncut (forall<k: Int> k <= z) ==> k < 0\n",
+        2,
+    ),
     // What is cut is to be shown first, and what is taken for true is no fact of the other case.
     ("ZW><z0<z0", "intro z w\ncut w < 0\nhyp 1.1\n", 3),
     ("ZW><z0<z0", "intro z w\non w < 0\nhyp 1.1\nhyp 2.1\n", 4),
@@ -359,6 +407,25 @@ const NOT_BY_TERM: [(&str, &str, u32); 11] = [
     ("XY>=xyT", "intro x y\nback 1.1\n", 2),
     ("XZ>=@xzT", "intro x z\nback 1.1\n", 2),
     ("XY>=@x@yT", "intro x y\nback 1.2\n", 2),
+    // No machine integers: an unbounded one, a formula; and a name of no variable.
+    ("Zl0z", "intro z\nrange z\n", 2),
+    ("Xl0@x", "intro x\nrange x@\n", 2),
+    ("XT", "intro x\nrange x == x\n", 2),
+    ("XT", "intro x\nrange q\n", 2),
+    // No unbounded integers.
+    ("XZT", "intro x z\ndiv x ; z\n", 2),
+    ("XZT", "intro x z\ndiv z ; x\n", 2),
+    ("ZWT", "intro z w\ndiv z ; w < z\n", 2),
+    ("ZWT", "intro z w\ndiv q ; w\n", 2),
+    // A division has no hypothesis more than five.
+    ("ZW=zz", "intro z w\ndiv z ; w\nhyp 2.6\n", 3),
+    // Another sort, a name of no variable, no quantifier, no hypothesis of the label, and another instance than the goal.
+    ("X>Z<z1<@x1", "intro x\ninst 1.1 x\n", 2),
+    ("W>Z<z1<w1", "intro w\ninst 1.1 q\n", 2),
+    ("W>Z<z1<w1", "intro w\ninst 1.1 w < 1\n", 2),
+    ("W><w1<w1", "intro w\ninst 1.1 w\n", 2),
+    ("W>Z<z1<w1", "intro w\ninst 1.2 w\n", 2),
+    (">ZZ<z1<21", "intro\ninst 1.1 2\ninst 2.1 1\nhyp 3.1\n", 4),
 ];
 
 #[test]
@@ -392,7 +459,7 @@ fn by_a_term(rt: HostRuntime) -> Result<(), Fail> {
 }
 
 /// Steps that cite a label of no step above them.
-const UNKNOWN: [&str; 12] = [
+const UNKNOWN: [&str; 13] = [
     "cases 2.1\n",
     "absurd 3.1\n",
     "drop 0.1\n",
@@ -405,6 +472,7 @@ const UNKNOWN: [&str; 12] = [
     "rewrite 1.1 in 2.1\n",
     "rewrite < 0.1\n",
     "rewrite < 1.1 in 0.1\n",
+    "inst 2.1 z\n",
 ];
 
 /// Whether this as the second step cites a step that is not above it.

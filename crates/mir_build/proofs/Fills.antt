@@ -1,5 +1,5 @@
 -- The numbered text of an expression fills a range of labels, each of which begins one block, and a range of locals, which it makes in order.
-use Rattle.std.proofs.Common.{◌≡◌, refl, ap, sym, ◌∙◌, subst, ℕ, ◌+◌, ◌&&◌, Bool, true, false, List, [], ◌∷◌, ◌++◌, drop, arith}
+use Rattle.std.proofs.Common.{◌≡◌, refl, ap, sym, ◌∙◌, subst, ℕ, ◌+◌, ◌&&◌, Bool, true, false, List, [], ◌∷◌, ◌++◌, drop, arith, true≢false}
 use Rattle.std.specs.List.{range_with_len}
 use Rattle.text_core.specs.declared.span.Span.{Span}
 use Rattle.logic_term.specs.declared.kinds.Label.{Label}
@@ -10,12 +10,12 @@ use Rattle.mir_ir.specs.declared.statement.Statement.{Statement}
 use Rattle.mir_ir.specs.declared.terminator.Terminator.{Terminator}
 use Rattle.source_kinds.specs.declared.kinds.LazyOp.{LazyOp}
 use Rattle.source_kinds.specs.declared.kinds.LazyOp.TheVariants.{And, Or}
-use Rattle.type_check.specs.TypedExpr.{TypedExpr, TypedStmts, TypedExprs, integer, truth, variable, negative, denied, binary, lazy, assign, update, call, block, branch, choice, repeat, panics, returned, endless, until_break, break_off, go_on, done, last, leaving, bind, run, none, more}
+use Rattle.type_check.specs.TypedExpr.{TypedExpr, TypedStmts, TypedExprs, integer, truth, variable, negative, denied, binary, lazy, assign, update, call, make, part, block, branch, choice, repeat, panics, returned, endless, until_break, break_off, go_on, done, last, leaving, bind, run, none, more}
 use Rattle.type_check.specs.Leaves.{leaves}
 use Rattle.type_check.specs.TypedExprView.{ty_of}
 use Rattle.mir_build.specs.Text.{Line, Puts, Makes, Turns, Leaves, Owns, made}
 use Rattle.mir_build.specs.Lowering.{Around, binds, looping, at, at_head, dies, dies_in, lazily, numbers, is_place}
-use Rattle.mir_build.specs.Numbered.{temporary_count, temporary_text, choice_labels, choice_text, loop_at, jump, into, rest, args, body_text, labels, labels_of, labels_in, locals, locals_of, locals_in, label}
+use Rattle.mir_build.specs.Numbered.{temporary_count, text_before, place_before, choice_labels, choice_text, loop_at, jump, into, rest, args, body_text, labels, labels_of, labels_in, locals, locals_of, locals_in, label}
 use Rattle.mir_build.proofs.Jumps.{deaths, first_dies_last}
 use Rattle.mir_build.proofs.Numbers.{within, within_zero, within_one, within_two, within_three, within_split, begins, begins-append, turns, turns-append, makings, makings-append}
 use Rattle.mir_build.proofs.Order.{InOrder, then_in_order, numbers_in_order}
@@ -39,8 +39,8 @@ one : (l t : ℕ) (s : Statement) → Fills l 0 t 0 (Puts s ∷ [])
 one l t s = put s [] (nothing l t)
 
 -- a local that nothing but these lines writes
-make : {l n t m : ℕ} (ty : Ty) (xs : List Line) → Fills l n (t + 1) m xs → Fills l n t (1 + m) (Makes t ty ∷ xs)
-make ty xs p = record { once = p.once; turned = p.turned; making = omega (arith, p.making); order = (refl, p.order) }
+make_local : {l n t m : ℕ} (ty : Ty) (xs : List Line) → Fills l n (t + 1) m xs → Fills l n t (1 + m) (Makes t ty ∷ xs)
+make_local ty xs p = record { once = p.once; turned = p.turned; making = omega (arith, p.making); order = (refl, p.order) }
 
 join : {l n t m n' m' : ℕ} (k u : ℕ) (xs ys : List Line) → k ≡ l + n → u ≡ t + m → Fills l n t m xs → Fills k n' u m' ys → Fills l (n + n') t (m + m') (xs ++ ys)
 join {l} {n} {t} {m} {n'} k u xs ys e f p q = record {
@@ -52,7 +52,7 @@ join {l} {n} {t} {m} {n'} k u xs ys e f p q = record {
 
 -- a local that a text writes, and what stands behind it
 made_then : {l n t m n' m' : ℕ} (k u : ℕ) (ty : Ty) (xs ys : List Line) → k ≡ l + n → u ≡ t + 1 + m → Fills l n (t + 1) m xs → Fills k n' u m' ys → Fills l (n + n') t (1 + (m + m')) (Makes t ty ∷ (xs ++ ys))
-made_then k u ty xs ys e f p q = make ty (xs ++ ys) (join k u xs ys e f p q)
+made_then k u ty xs ys e f p q = make_local ty (xs ++ ys) (join k u xs ys e f p q)
 
 -- the same counts
 as_counts : {l t n m n' m' : ℕ} (xs : List Line) → n ≡ n' → m ≡ m' → Fills l n t m xs → Fills l n' t m' xs
@@ -158,10 +158,12 @@ all_dying l t s (p ∷ ps) = subst (λ xs. Fills l 0 t 0 xs) (sym (first_dies_la
 jumped : (l t : ℕ) (s : Span) (depth : ℕ) (to : Label) (scope : List Place) → Fills l 0 t 0 (jump s depth to scope)
 jumped l t s depth to scope = as_counts _ refl refl (join l t (deaths s (drop depth scope)) _ (omega arith) (omega arith) (all_dying l t s (drop depth scope)) (left l t _))
 
--- what an assignment writes
-target_filled : (e : TypedExpr) (c : Around) (l t : ℕ) → Fills l (labels e) (t + 1) (locals e) (into e c l (t + 1) t) → Fills l (labels e) t (temporary_count (is_place e) + locals e) (temporary_text (is_place e) t (ty_of e) (into e c l (t + 1) t))
-target_filled (variable ty s v) c l t p = nothing l t
-target_filled e c l t p = make (ty_of e) _ p
+-- before a place
+target_filled : (e : TypedExpr) (c : Around) (l t : ℕ) → Fills l (labels e) (t + 1) (locals e) (into e c l (t + 1) t) → (is_place e ≡ true → Fills l (labels e) t (locals e) (place_before e c l t))
+    → Fills l (labels e) t (temporary_count (is_place e) + locals e) (text_before e c l t)
+target_filled (variable ty s v) c l t p q = as_counts _ refl (omega arith) (q refl)
+target_filled (part ty s e n) c l t p q = as_counts _ refl (omega arith) (q refl)
+target_filled e c l t p q = make_local (ty_of e) _ p
 
 -- ---- the numbered text
 
@@ -175,10 +177,12 @@ mutual
   fills (binary ty s op a b) c l t d = as_counts _ (omega arith) (omega arith) (made_then _ _ _ _ _ refl refl (fills a c l (t + 1) t) (made_then _ _ _ _ _ refl refl (fills b c _ _ _) (one _ _ _)))
   fills (lazy ty s op a b) c l t d = as_counts _ (omega arith) (omega arith) (made_then _ _ _ _ _ refl refl (fills a c l (t + 1) t) (lazily_filled op c s t d _ (fills b c _ _ d)))
   fills (assign ty s a e) c l t d =
-      as_counts _ (omega arith) (omega arith) (made_then _ _ _ _ _ refl refl (fills e c l (t + 1) t) (join _ _ _ _ refl refl (target_filled a c _ _ (fills a c _ _ _)) (put _ _ (one _ _ _))))
+      as_counts _ (omega arith) (omega arith) (made_then _ _ _ _ _ refl refl (fills e c l (t + 1) t) (join _ _ _ _ refl refl (target_filled a c _ _ (fills a c _ _ _) (before_filled a c _ _)) (put _ _ (one _ _ _))))
   fills (update ty s op a e) c l t d =
-      as_counts _ (omega arith) (omega arith) (made_then _ _ _ _ _ refl refl (fills e c l (t + 1) t) (join _ (t + 1 + locals e + temporary_count (is_place a) + locals a) _ _ refl (omega arith) (target_filled a c _ _ (fills a c _ _ _)) (make _ _ (put _ _ (put _ _ (one _ _ _))))))
+      as_counts _ (omega arith) (omega arith) (made_then _ _ _ _ _ refl refl (fills e c l (t + 1) t) (join _ (t + 1 + locals e + temporary_count (is_place a) + locals a) _ _ refl (omega arith) (target_filled a c _ _ (fills a c _ _ _) (before_filled a c _ _)) (make_local _ _ (put _ _ (put _ _ (one _ _ _))))))
   fills (call ty s f es) c l t d = as_counts _ (omega arith) (omega arith) (join _ _ _ _ refl refl (args_filled es c l t) (turn _ _ c _))
+  fills (make ty s k es) c l t d = as_counts _ (omega arith) (omega arith) (join _ _ _ _ refl refl (args_filled es c l t) (one _ _ _))
+  fills (part ty s e n) c l t d = as_counts _ (omega arith) (omega arith) (join _ _ _ _ refl refl (target_filled e c l t (fills e c l (t + 1) t) (before_filled e c l t)) (one _ _ _))
   fills (block ty s ss) c l t d = rest_filled ss false s c l t d
   fills (branch ty s e a) c l t d = as_counts _ (omega arith) (omega arith) (made_then _ _ _ _ _ refl refl (fills e c l (t + 1) t) (forked _ _ c _ _ _ _ _ refl refl (fills a c _ _ d) (one _ _ _)))
   fills (choice ty s e a b) c l t d = as_counts _ (omega arith) (omega arith) (made_then _ _ _ _ _ refl refl (fills e c l (t + 1) t) (sides_filled (leaves a && leaves b) _ _ c s t _ _ refl refl (fills a c _ _ d) (fills b c _ _ d)))
@@ -192,10 +196,15 @@ mutual
   fills (break_off ty s) c l t d = jumped l t s (loop_at c.loops).depth (loop_at c.loops).after c.scope
   fills (go_on ty s) c l t d = jumped l t s (loop_at c.loops).depth (loop_at c.loops).head c.scope
 
+  before_filled : (e : TypedExpr) (c : Around) (l t : ℕ) → is_place e ≡ true → Fills l (labels e) t (locals e) (place_before e c l t)
+  before_filled (variable ty s v) c l t h = nothing l t
+  before_filled (part ty s e n) c l t h = target_filled e c l t (fills e c l (t + 1) t) (before_filled e c l t)
+  before_filled _ c l t h = absurd (true≢false (sym h))
+
   pub rest_filled : (ss : TypedStmts) (outer : Bool) (s : Span) (c : Around) (l t d : ℕ) → Fills l (labels_of ss) t (locals_of ss) (rest ss outer s c l t d)
   rest_filled done outer s c l t d = one l t _
   rest_filled (last e) outer s c l t d = fills e c l t d
-  rest_filled (leaving e) outer s c l t d = make (ty_of e) _ (fills e c l (t + 1) t)
+  rest_filled (leaving e) outer s c l t d = make_local (ty_of e) _ (fills e c l (t + 1) t)
   rest_filled (bind e ss) outer s c l t d =
       as_counts _ (omega arith) (omega arith) (made_then _ _ _ _ _ refl refl (fills e c l (t + 1) t) (join _ _ _ _ refl refl (rest_filled ss outer s (binds c t) _ _ d) (dying _ _ outer s t)))
   rest_filled (run e ss) outer s c l t d = as_counts _ (omega arith) (omega arith) (made_then _ _ _ _ _ refl refl (fills e c l (t + 1) t) (rest_filled ss outer s c _ _ d))
@@ -204,9 +213,9 @@ mutual
   args_filled none c l t = nothing l t
   args_filled (more e es) c l t = as_counts _ (omega arith) (omega arith) (made_then _ _ _ _ _ refl refl (fills e c l (t + 1) t) (args_filled es c _ _))
 
--- what an assignment writes
-pub target_fills : (e : TypedExpr) (c : Around) (l t : ℕ) → Fills l (labels e) t (temporary_count (is_place e) + locals e) (temporary_text (is_place e) t (ty_of e) (into e c l (t + 1) t))
-target_fills e c l t = target_filled e c l t (fills e c l (t + 1) t)
+-- before a place
+pub target_fills : (e : TypedExpr) (c : Around) (l t : ℕ) → Fills l (labels e) t (temporary_count (is_place e) + locals e) (text_before e c l t)
+target_fills e c l t = target_filled e c l t (fills e c l (t + 1) t) (before_filled e c l t)
 
 -- the text of a body
 pub body_fills : (e : TypedExpr) (c : Around) (l t : ℕ) → Fills l (labels e) t (locals e) (body_text e c l t)

@@ -11,7 +11,8 @@ use Rattle.mir_ir.specs.WellFormed.{Locals, with, parameters, IsTyped}
 use Rattle.type_check.specs.declared.program.Signature.{Signature}
 use Rattle.type_check.specs.declared.program.TypedFunction.{TypedFunction}
 use Rattle.type_check.specs.TypedExprView.{span_of}
-use Rattle.type_check.specs.WellTyped.{IsBuilt, FunctionFits, surroundings_of}
+use Rattle.type_check.specs.Plain.{IsScalar}
+use Rattle.type_check.specs.WellTyped.{surroundings_of}
 use Rattle.mir_build.specs.Text.{fresh, begun, made, owned}
 use Rattle.mir_build.specs.Lowering.{numbers, counted, paired, all_locals, local_name, entry_title, around_body, whole, LowersTo}
 use Rattle.mir_build.proofs.Numbers.{count}
@@ -27,6 +28,7 @@ use Rattle.mir_build.proofs.LawInit.{set_of, agree, EachBlock, BlockFits, begun_
 use Rattle.mir_build.proofs.OneBody.{labels_once, locals_once}
 use Rattle.mir_build.proofs.LawBlocks.{typed_at, BlockTyped, typed_blocks, has_block, end_typed}
 use Rattle.mir_ir.specs.declared.body.Bodies.{Bodies}
+use Rattle.mir_build.proofs.PlainTyping.{FunctionFitsPlainly}
 
 -- ---- numbers of parameters
 
@@ -154,7 +156,7 @@ module _ (owner : List ℕ) (f : TypedFunction) (b : Body) (gone : Initialised) 
 
   -- ---- the labelling
 
-  module _ (σ : List Signature) (fits : FunctionFits σ f) where
+  module _ (σ : List Signature) (fits : FunctionFitsPlainly σ f) where
     runs_from : Laid (Meets [] (parameters b)) (parameters b) l.text (with 0 (parameters b))
     runs_from = text_laid (surroundings_of σ f.signature) false (around_body f) f.body l.text l.into f.signature.params (parameters b) (parameters b) scoped fits.body apart
 
@@ -193,10 +195,10 @@ module _ (owner : List ℕ) (f : TypedFunction) (b : Body) (gone : Initialised) 
 
   -- ---- types
 
-  module _ (σ : List Signature) (bodies : Bodies) (fits : FunctionFits σ f) (callees : (n : ℕ) (g : Signature) → slice_get σ n ≡ Some g → Callee bodies n g) (answers : (n : ℕ) (g : Signature) → slice_get σ n ≡ Some g → IsBuilt g.answer) where
+  module _ (σ : List Signature) (bodies : Bodies) (fits : FunctionFitsPlainly σ f) (callees : (n : ℕ) (g : Signature) → slice_get σ n ≡ Some g → Callee bodies n g) (answers : (n : ℕ) (g : Signature) → slice_get σ n ≡ Some g → IsScalar g.answer) where
     pub lines_typed : AreTyped bodies b l.text
     lines_typed = text_typed (surroundings_of σ f.signature) bodies b callees answers answer_fits false (around_body f) f.body l.text l.into f.signature.params
-        (record { scope = scope_fits; built_types = fits.params }) fits.body (answer_fits ∙ ap Some (sym fits.of_answer)) text_fits
+        (record { scope = scope_fits; scalar_types = fits.params }) fits.body (answer_fits ∙ ap Some (sym fits.of_answer)) text_fits
 
     pub blocks_typed : EachBlock (BlockTyped bodies b) b.blocks
     blocks_typed = subst (EachBlock (BlockTyped bodies b)) (sym l.blocks) (typed_blocks bodies b (span_of f.body) l.text (fresh (entry_title b.entry)) lines_typed (tt, tt))

@@ -17,7 +17,7 @@ use Rattle.mir_ir.specs.Body.{block_in}
 use Rattle.mir_ir.specs.WellFormed.{Locals}
 use Rattle.type_check.specs.declared.program.Signature.{Signature}
 use Rattle.type_check.specs.declared.program.TypedFunction.{TypedFunction}
-use Rattle.type_check.specs.WellTyped.{IsBuilt, FunctionFits}
+use Rattle.type_check.specs.Plain.{IsScalar}
 use Rattle.mir_build.specs.Laws.{HeadsAreThere}
 use Rattle.mir_ir.specs.Names.{IsNameIn}
 use Rattle.mir_build.specs.Text.{owned}
@@ -32,6 +32,7 @@ use Rattle.mir_build.proofs.LawFunction.{start, start_fits, owned_absent, body_l
 use Rattle.mir_build.proofs.LawLocals.{local_number, named}
 use Rattle.mir_ir.specs.declared.body.Bodies.{Bodies}
 use Rattle.mir_build.proofs.Basics.{some_same}
+use Rattle.mir_build.proofs.PlainTyping.{FunctionFitsPlainly}
 
 free_at : (set : Locals) (ts : List Term) (j : ℕ) (t : Term) → EachFree set ts → slice_get ts j ≡ Some t → (x : Name) → free x t ≡ true → IsLocalIn set x
 free_at set [] j t h e x f = absurd (cc)
@@ -50,8 +51,8 @@ within_locals b y h = by_case (slice_get b.locals y) refl h
     by_case None e g = absurd (true≢false (sym g))
     by_case (Some t) e g = slice_get_within b.locals y t e
 
-module _ (owner : List ℕ) (f : TypedFunction) (b : Body) (gone : Initialised) {τ : List Signature} (l : LowersTo τ owner f b gone) (σ : List Signature) (bodies : Bodies) (fits : FunctionFits σ f)
-    (callees : (n : ℕ) (g : Signature) → slice_get σ n ≡ Some g → Callee bodies n g) (answers : (n : ℕ) (g : Signature) → slice_get σ n ≡ Some g → IsBuilt g.answer) where
+module _ (owner : List ℕ) (f : TypedFunction) (b : Body) (gone : Initialised) {τ : List Signature} (l : LowersTo τ owner f b gone) (σ : List Signature) (bodies : Bodies) (fits : FunctionFitsPlainly σ f)
+    (callees : (n : ℕ) (g : Signature) → slice_get σ n ≡ Some g → Callee bodies n g) (answers : (n : ℕ) (g : Signature) → slice_get σ n ≡ Some g → IsScalar g.answer) where
   sets : Label → Locals
   sets = start owner f b gone l σ fits
 

@@ -10,7 +10,7 @@ use Rattle.mir_ir.specs.declared.body.Initialised.{Initialised}
 use Rattle.type_check.specs.declared.program.Signature.{Signature}
 use Rattle.type_check.specs.declared.program.TypedFunction.{TypedFunction}
 use Rattle.type_check.specs.VariableNames.{variable_name, answer_name}
-use Rattle.type_check.specs.WellTyped.{IsBuilt, AllBuilt, FunctionFits}
+use Rattle.type_check.specs.Plain.{IsScalar, AllScalar}
 use Rattle.mir_build.specs.Laws.{LocalsAreNoVariables}
 use Rattle.mir_ir.specs.Names.{LocalsAreNamed, new_number}
 use Rattle.mir_build.specs.Text.{Line, Puts, Makes, Turns, Leaves, Owns, made}
@@ -23,6 +23,7 @@ use Rattle.mir_build.proofs.OneBody.{locals_once}
 use Rattle.mir_build.proofs.LawFunction.{locals_fit, lines_typed}
 use Rattle.mir_ir.specs.declared.body.Bodies.{Bodies}
 use Rattle.mir_build.proofs.Basics.{some_same}
+use Rattle.mir_build.proofs.PlainTyping.{FunctionFitsPlainly}
 
 -- ---- names by number
 
@@ -148,37 +149,37 @@ numbers_length : (ms : List (ℕ × Ty)) → length (numbers ms) ≡ length ms
 numbers_length [] = refl
 numbers_length (m ∷ ms) = ap suc (numbers_length ms)
 
--- ---- built types
+-- ---- scalar types
 
--- each of the locals is of a built type
-pub record AllOfBuilt (ms : List (ℕ × Ty)) : Type 0 where
-  pub built : (x : ℕ) (t : Ty) → Has (x, t) ms → IsBuilt t
+-- each of the locals is of a scalar type
+pub record AllOfScalar (ms : List (ℕ × Ty)) : Type 0 where
+  pub scalar : (x : ℕ) (t : Ty) → Has (x, t) ms → IsScalar t
 
-first_built : (x : ℕ) (t : Ty) (ms : List (ℕ × Ty)) → IsBuilt t → AllOfBuilt ms → AllOfBuilt ((x, t) ∷ ms)
-first_built x t ms h g = record { built = λ y u k. by_case y u ((x, t) ∷ ms) k refl }
+first_scalar : (x : ℕ) (t : Ty) (ms : List (ℕ × Ty)) → IsScalar t → AllOfScalar ms → AllOfScalar ((x, t) ∷ ms)
+first_scalar x t ms h g = record { scalar = λ y u k. by_case y u ((x, t) ∷ ms) k refl }
   where
-    by_case : (y : ℕ) (u : Ty) (ns : List (ℕ × Ty)) → Has (y, u) ns → ns ≡ (x, t) ∷ ms → IsBuilt u
-    by_case y u ns (here {xs = ns'}) e = let r : ◌≡◌ {A = ℕ × Ty} (y, u) (x, t) = cc in let q : u ≡ t = ap (λ (p : ℕ × Ty). p.1) r in subst IsBuilt (sym q) h
-    by_case y u ns (there {y = z} {xs = ns'} k) e = let q : ns' ≡ ms = cc in g.built y u (subst (λ os. Has (y, u) os) q k)
+    by_case : (y : ℕ) (u : Ty) (ns : List (ℕ × Ty)) → Has (y, u) ns → ns ≡ (x, t) ∷ ms → IsScalar u
+    by_case y u ns (here {xs = ns'}) e = let r : ◌≡◌ {A = ℕ × Ty} (y, u) (x, t) = cc in let q : u ≡ t = ap (λ (p : ℕ × Ty). p.1) r in subst IsScalar (sym q) h
+    by_case y u ns (there {y = z} {xs = ns'} k) e = let q : ns' ≡ ms = cc in g.scalar y u (subst (λ os. Has (y, u) os) q k)
 
-built-append : (ms ns : List (ℕ × Ty)) → AllOfBuilt ms → AllOfBuilt ns → AllOfBuilt (ms ++ ns)
-built-append [] ns h g = g
-built-append (m ∷ ms) ns h g = first_built m.0 m.1 (ms ++ ns) (h.built m.0 m.1 here) (built-append ms ns (record { built = λ x t k. h.built x t (there k) }) g)
+scalar-append : (ms ns : List (ℕ × Ty)) → AllOfScalar ms → AllOfScalar ns → AllOfScalar (ms ++ ns)
+scalar-append [] ns h g = g
+scalar-append (m ∷ ms) ns h g = first_scalar m.0 m.1 (ms ++ ns) (h.scalar m.0 m.1 here) (scalar-append ms ns (record { scalar = λ x t k. h.scalar x t (there k) }) g)
 
-none_built : AllOfBuilt []
-none_built = record { built = λ x t h. elim h [ ] }
+none_scalar : AllOfScalar []
+none_scalar = record { scalar = λ x t h. elim h [ ] }
 
-params_built : (n : ℕ) (ts : List Ty) → AllBuilt ts → AllOfBuilt (paired n ts)
-params_built n [] h = none_built
-params_built n (t ∷ ts) h = first_built n t (paired (n + 1) ts) h.0 (params_built (n + 1) ts h.1)
+params_scalar : (n : ℕ) (ts : List Ty) → AllScalar ts → AllOfScalar (paired n ts)
+params_scalar n [] h = none_scalar
+params_scalar n (t ∷ ts) h = first_scalar n t (paired (n + 1) ts) h.0 (params_scalar (n + 1) ts h.1)
 
-text_built : (bodies : Bodies) (b : Body) (xs : List Line) → AreTyped bodies b xs → AllOfBuilt (made xs)
-text_built bodies b [] h = none_built
-text_built bodies b (Puts s ∷ xs) h = text_built bodies b xs h.1
-text_built bodies b (Makes x t ∷ xs) h = first_built x t (made xs) h.0 (text_built bodies b xs h.1)
-text_built bodies b (Turns t k ∷ xs) h = text_built bodies b xs h.2
-text_built bodies b (Leaves t ∷ xs) h = text_built bodies b xs h.1
-text_built bodies b (Owns l ys ∷ xs) h = text_built bodies b xs h
+text_scalar : (bodies : Bodies) (b : Body) (xs : List Line) → AreTyped bodies b xs → AllOfScalar (made xs)
+text_scalar bodies b [] h = none_scalar
+text_scalar bodies b (Puts s ∷ xs) h = text_scalar bodies b xs h.1
+text_scalar bodies b (Makes x t ∷ xs) h = first_scalar x t (made xs) h.0 (text_scalar bodies b xs h.1)
+text_scalar bodies b (Turns t k ∷ xs) h = text_scalar bodies b xs h.2
+text_scalar bodies b (Leaves t ∷ xs) h = text_scalar bodies b xs h.1
+text_scalar bodies b (Owns l ys ∷ xs) h = text_scalar bodies b xs h
 
 module _ (owner : List ℕ) (f : TypedFunction) (b : Body) (gone : Initialised) {τ : List Signature} (l : LowersTo τ owner f b gone) where
   name_at : (x : ℕ) (n : Name) → slice_get b.names x ≡ Some n → (n ≡ local_name x) × (x < length b.locals)
@@ -205,18 +206,18 @@ module _ (owner : List ℕ) (f : TypedFunction) (b : Body) (gone : Initialised) 
     },
   )
 
-  module _ (σ : List Signature) (bodies : Bodies) (fits : FunctionFits σ f) (callees : (n : ℕ) (g : Signature) → slice_get σ n ≡ Some g → Callee bodies n g) (answers : (n : ℕ) (g : Signature) → slice_get σ n ≡ Some g → IsBuilt g.answer) where
-    all_built : AllOfBuilt (all_locals f l.text)
-    all_built = first_built 0 f.signature.answer (paired 1 f.signature.params ++ made l.text) fits.answer
-        (built-append (paired 1 f.signature.params) (made l.text) (params_built 1 f.signature.params fits.params)
-        (text_built bodies b l.text (lines_typed owner f b gone l σ bodies fits callees answers)))
+  module _ (σ : List Signature) (bodies : Bodies) (fits : FunctionFitsPlainly σ f) (callees : (n : ℕ) (g : Signature) → slice_get σ n ≡ Some g → Callee bodies n g) (answers : (n : ℕ) (g : Signature) → slice_get σ n ≡ Some g → IsScalar g.answer) where
+    all_scalar : AllOfScalar (all_locals f l.text)
+    all_scalar = first_scalar 0 f.signature.answer (paired 1 f.signature.params ++ made l.text) fits.answer
+        (scalar-append (paired 1 f.signature.params) (made l.text) (params_scalar 1 f.signature.params fits.params)
+        (text_scalar bodies b l.text (lines_typed owner f b gone l σ bodies fits callees answers)))
 
     below : (x : ℕ) → Has x (numbers (all_locals f l.text)) → x < length b.locals
     below x h = let w = number_has x (all_locals f l.text) h in slice_get_within b.locals x w.0 ((locals_fit owner f b gone l).fits x w.0 w.1)
 
-    pub types_built : (x : ℕ) (t : Ty) → slice_get b.locals x ≡ Some t → IsBuilt t
-    types_built x t e =
+    pub types_scalar : (x : ℕ) (t : Ty) → slice_get b.locals x ≡ Some t → IsScalar t
+    types_scalar x t e =
         let n = each_counts (length b.locals) (numbers (all_locals f l.text)) (numbers_length (all_locals f l.text) ∙ sym l.all) below (locals_once τ owner f b gone l) x (slice_get_within b.locals x t e) in
         let w = counted_has x (all_locals f l.text) n in
         let q : w.0 ≡ t = some_same (sym ((locals_fit owner f b gone l).fits x w.0 w.1) ∙ e) in
-        subst IsBuilt q (all_built.built x w.0 w.1)
+        subst IsScalar q (all_scalar.scalar x w.0 w.1)

@@ -13,7 +13,7 @@ use Rattle.mir_ir.specs.declared.terminator.Terminator.{Terminator}
 use Rattle.mir_ir.specs.WellFormed.{Locals, with, without, Within}
 use Rattle.source_kinds.specs.declared.kinds.BinaryOp.{BinaryOp}
 use Rattle.type_check.specs.TypedExpr.{TypedExpr}
-use Rattle.type_check.specs.WellTyped.{Surroundings, within_loop, IsWellTyped, EachSpeaks}
+use Rattle.type_check.specs.WellTyped.{Surroundings, within_loop, EachSpeaks}
 use Rattle.mir_ir.specs.declared.terminator.TerminatorKind.TheVariants.{Goto}
 use Rattle.mir_build.specs.declared.around.Loop.{Loop}
 use Rattle.mir_build.specs.Text.{Title, Line, Makes, Turns, Leaves, made}
@@ -25,6 +25,7 @@ use Rattle.mir_build.proofs.LawRuns.{with_self, with_more, with_within, kept, Ru
 use Rattle.mir_build.proofs.LawLaid.{weight, Apart, none, before, first, second, left, right, fresh_second, given_up, still, at_most, same_set, forked, parted, looped, circled, spun, with_all, with_all_more, with_all_has, called, weight_with}
 use Rattle.mir_build.proofs.Jumps.{innermost_last, deaths, first_dies_last, has_last, has_drop_last}
 use Rattle.mir_build.proofs.TypedShapes.{Takes, of_number, of_bool, of_unit, of_copy, of_minus, of_not, of_operation, KeepsTyped, of_typed_body}
+use Rattle.mir_build.proofs.PlainTyping.{IsPlainlyTyped}
 
 -- the set has the locals of the places in scope, one place for each variable, and what is initialised around the innermost loop, of which
 -- nothing is bound inside
@@ -333,5 +334,5 @@ keeps_sets σ = record {
   called = λ c Γ s f g ts after d T xs e q p. laid_call c Γ s f ts after d T g.params xs p;
 }
 
-pub text_laid : (σ : Surroundings) (i : Bool) (c : Around) (e : TypedExpr) (xs : List Line) → IntoBody c e xs → (Γ : List Ty) (base set : Locals) → Scoped c Γ base set → IsWellTyped (within_loop i σ) Γ e → Apart set (0 ∷ numbers (made xs)) → Laid (Meets c.loops base) set xs (with 0 set)
+pub text_laid : (σ : Surroundings) (i : Bool) (c : Around) (e : TypedExpr) (xs : List Line) → IntoBody c e xs → (Γ : List Ty) (base set : Locals) → Scoped c Γ base set → IsPlainlyTyped (within_loop i σ) Γ e → Apart set (0 ∷ numbers (made xs)) → Laid (Meets c.loops base) set xs (with 0 set)
 text_laid σ i c e xs p Γ base set sc h a = of_typed_body σ WritesSet NamesIn PassesSet (keeps_sets σ) i c e xs p Γ h base set sc a a

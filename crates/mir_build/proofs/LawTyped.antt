@@ -12,7 +12,8 @@ use Rattle.mir_ir.specs.declared.terminator.TerminatorKind.{TerminatorKind}
 use Rattle.mir_ir.specs.declared.terminator.TerminatorKind.TheVariants.{Goto, If, Call, Return, Panic}
 use Rattle.mir_ir.specs.WellFormed.{IsSigned, PlaceHas, OperandHas, OperationHas, StatementIsTyped, CallIsTyped, Locals}
 use Rattle.mir_ir.specs.WellFormed as mir
-use Rattle.type_check.specs.WellTyped.{IsBuilt, AllBuilt, operation_ty, is_signed}
+use Rattle.type_check.specs.Plain.{IsScalar, AllScalar}
+use Rattle.type_check.specs.WellTyped.{operation_ty, is_signed}
 use Rattle.mir_build.specs.Text.{Line, Puts, Makes, Turns, Leaves, Owns, made}
 use Rattle.mir_build.proofs.LawLists.{Has, here, there, has_left, has_right, made-append}
 use Rattle.mir_build.proofs.LawNames.{HoldsPlaces, HeadFits}
@@ -60,26 +61,26 @@ signed I64 e = tt
 signed Isize e = tt
 signed _ e = absurd (true≢false (sym e))
 
--- the type of an operation is built
-pub operation_built : (op : BinaryOp) (s t : Ty) → operation_ty op s ≡ Some t → IsBuilt t
-operation_built op (int k) t e = by_test _ (some_same e)
+-- the type of an operation is scalar
+pub operation_scalar : (op : BinaryOp) (s t : Ty) → operation_ty op s ≡ Some t → IsScalar t
+operation_scalar op (int k) t e = by_test _ (some_same e)
   where
-    by_test : (c : Bool) → (if c then int k else bool) ≡ t → IsBuilt t
-    by_test true q = subst IsBuilt q tt
-    by_test false q = subst IsBuilt q tt
-operation_built op bool t e = subst IsBuilt (sym (operation_on_bools op t e).1) tt
-operation_built op _ t e = absurd (cc)
+    by_test : (c : Bool) → (if c then int k else bool) ≡ t → IsScalar t
+    by_test true q = subst IsScalar q tt
+    by_test false q = subst IsScalar q tt
+operation_scalar op bool t e = subst IsScalar (sym (operation_on_bools op t e).1) tt
+operation_scalar op _ t e = absurd (cc)
 
--- ---- built types
+-- ---- scalar types
 
-pub built_more : (ts : List Ty) (t : Ty) → AllBuilt ts → IsBuilt t → AllBuilt (ts ++ t ∷ [])
-built_more [] t h g = (g, tt)
-built_more (u ∷ ts) t h g = (h.0, built_more ts t h.1 g)
+pub scalar_more : (ts : List Ty) (t : Ty) → AllScalar ts → IsScalar t → AllScalar (ts ++ t ∷ [])
+scalar_more [] t h g = (g, tt)
+scalar_more (u ∷ ts) t h g = (h.0, scalar_more ts t h.1 g)
 
-pub built_at : (ts : List Ty) (i : ℕ) (t : Ty) → AllBuilt ts → slice_get ts i ≡ Some t → IsBuilt t
-built_at [] i t h e = absurd (cc)
-built_at (u ∷ ts) zero t h e = subst IsBuilt (some_same e) h.0
-built_at (u ∷ ts) (suc i) t h e = built_at ts i t h.1 e
+pub scalar_at : (ts : List Ty) (i : ℕ) (t : Ty) → AllScalar ts → slice_get ts i ≡ Some t → IsScalar t
+scalar_at [] i t h e = absurd (cc)
+scalar_at (u ∷ ts) zero t h e = subst IsScalar (some_same e) h.0
+scalar_at (u ∷ ts) (suc i) t h e = scalar_at ts i t h.1 e
 
 -- ---- what is typed
 
@@ -95,11 +96,11 @@ EndFits bodies b (Panic cause) = Unit {0}
 abbrev pub is_local : Body → Locals
 is_local b x = is_some (slice_get b.locals x)
 
--- the statements and ends of the text are typed, and what it makes is of a built type
+-- the statements and ends of the text are typed, and what it makes is of a scalar type
 abbrev pub AreTyped : Bodies → Body → List Line → Type 0
 AreTyped bodies b [] = Unit {0}
 AreTyped bodies b (Puts s ∷ xs) = StatementIsTyped b s.kind × AreTyped bodies b xs
-AreTyped bodies b (Makes x t ∷ xs) = IsBuilt t × AreTyped bodies b xs
+AreTyped bodies b (Makes x t ∷ xs) = IsScalar t × AreTyped bodies b xs
 AreTyped bodies b (Turns t k ∷ xs) = EndFits bodies b t.kind × HeadFits (is_local b) k.head × AreTyped bodies b xs
 AreTyped bodies b (Leaves t ∷ xs) = EndFits bodies b t.kind × AreTyped bodies b xs
 AreTyped bodies b (Owns l ys ∷ xs) = AreTyped bodies b xs

@@ -14,15 +14,17 @@ use Rattle.source_kinds.specs.declared.kinds.BinaryOp.{BinaryOp}
 use Rattle.type_check.specs.declared.program.Signature.{Signature}
 use Rattle.type_check.specs.TypedExpr.{TypedExpr}
 use Rattle.type_check.specs.TypedExprView.{ty_of}
-use Rattle.type_check.specs.WellTyped.{Surroundings, within_loop, IsBuilt, AllBuilt, IsWellTyped, EachSpeaks, operation_ty, unit}
+use Rattle.type_check.specs.Plain.{IsScalar, AllScalar}
+use Rattle.type_check.specs.WellTyped.{Surroundings, within_loop, EachSpeaks, operation_ty, unit}
 use Rattle.mir_ir.specs.declared.terminator.TerminatorKind.TheVariants.{Goto}
 use Rattle.mir_build.specs.Text.{Line, Leaves, made}
 use Rattle.mir_build.specs.Lowering.{Around, Formula, accepted, whole, looping, binds, moved, ends, dies, dies_in, die_from, puts, puts_at, put_unit, made_by, test, fork, calls, turning, spinning, circling, IntoBody}
 use Rattle.mir_build.proofs.LawNames.{head_fits}
-use Rattle.mir_build.proofs.LawTyped.{operation_has, operation_built, signed, built_more, built_at, is_local, AreTyped, typed-append, MadeFits, made_first, made_rest, made_left, made_right, ScopeFits, scope_at, scope_more, scope_length, scope_holds, scope_has}
+use Rattle.mir_build.proofs.LawTyped.{operation_has, operation_scalar, signed, scalar_more, scalar_at, is_local, AreTyped, typed-append, MadeFits, made_first, made_rest, made_left, made_right, ScopeFits, scope_at, scope_more, scope_length, scope_holds, scope_has}
 use Rattle.mir_build.proofs.LawLists.{Has, here, there}
 use Rattle.mir_build.proofs.Jumps.{deaths, first_dies_last, has_drop}
 use Rattle.mir_build.proofs.TypedShapes.{Takes, of_number, of_bool, of_unit, of_copy, of_minus, of_not, of_operation, KeepsTyped, of_typed_body}
+use Rattle.mir_build.proofs.PlainTyping.{IsPlainlyTyped}
 
 -- the body of a callee has the types of its signature
 pub record Callee (bodies : Bodies) (n : ℕ) (g : Signature) : Type 0 where
@@ -35,22 +37,22 @@ pub record Callee (bodies : Bodies) (n : ℕ) (g : Signature) : Type 0 where
 -- the types of the variables in scope
 pub record Known (b : Body) (c : Around) (Γ : List Ty) : Type 0 where
   pub scope : ScopeFits b c.scope Γ
-  pub built_types : AllBuilt Γ
+  pub scalar_types : AllScalar Γ
 
--- the types of temporaries are built
-abbrev pub EachBuilt : List (ℕ × Ty) → Type 0
-EachBuilt [] = Unit {0}
-EachBuilt (x ∷ ts) = IsBuilt x.1 × EachBuilt ts
+-- the types of temporaries are scalar
+abbrev pub EachScalar : List (ℕ × Ty) → Type 0
+EachScalar [] = Unit {0}
+EachScalar (x ∷ ts) = IsScalar x.1 × EachScalar ts
 
 -- the temporaries are locals of their types
 abbrev pub EachAt : Body → List (ℕ × Ty) → Type 0
 EachAt b [] = Unit {0}
 EachAt b (x ∷ ts) = (slice_get b.locals x.0 ≡ Some x.1) × EachAt b ts
 
--- the text writes a typed value of a built type
+-- the text writes a typed value of a scalar type
 pub record WritesTyped (bodies : Bodies) (b : Body) (c : Around) (Γ : List Ty) (ts : List (ℕ × Ty)) (d : ℕ) (T : Ty) (xs : List Line) : Type 0 where
-  pub built : AllBuilt Γ → EachBuilt ts → IsBuilt T
-  pub typed : Known b c Γ → EachBuilt ts → EachAt b ts → slice_get b.locals d ≡ Some T → MadeFits b (made xs) → AreTyped bodies b xs
+  pub scalar : AllScalar Γ → EachScalar ts → IsScalar T
+  pub typed : Known b c Γ → EachScalar ts → EachAt b ts → slice_get b.locals d ≡ Some T → MadeFits b (made xs) → AreTyped bodies b xs
 
 abbrev pub NamesTyped : Bodies → Body → Around → List Ty → Place → Ty → List Line → Type 0
 NamesTyped bodies b c Γ p T xs = Known b c Γ → MadeFits b (made xs) → AreTyped bodies b xs × PlaceHas b p T
@@ -59,7 +61,7 @@ abbrev pub PassesTyped : Bodies → Body → Around → List Ty → List ℕ →
 PassesTyped bodies b c Γ ts Ts xs = Known b c Γ → MadeFits b (made xs) → AreTyped bodies b xs × OperandsHave b (map moved ts) Ts
 
 module _ (σ : Surroundings) (bodies : Bodies) (b : Body) (callees : (n : ℕ) (g : Signature) → slice_get σ.signatures n ≡ Some g → Callee bodies n g)
-    (answers : (n : ℕ) (g : Signature) → slice_get σ.signatures n ≡ Some g → IsBuilt g.answer) (own_answer : slice_get b.locals 0 ≡ Some σ.answer) where
+    (answers : (n : ℕ) (g : Signature) → slice_get σ.signatures n ≡ Some g → IsScalar g.answer) (own_answer : slice_get b.locals 0 ≡ Some σ.answer) where
   -- local x has the type
   abbrev At : ℕ → Ty → Type 0
   At x t = slice_get b.locals x ≡ Some t
@@ -71,24 +73,24 @@ module _ (σ : Surroundings) (bodies : Bodies) (b : Body) (callees : (n : ℕ) (
   at_type x t u h e = h ∙ ap Some e
 
   inner : (c : Around) (Γ : List Ty) (head after : Label) → Known b c Γ → Known b (looping c head after) Γ
-  inner c Γ head after k = record { scope = k.scope; built_types = k.built_types }
+  inner c Γ head after k = record { scope = k.scope; scalar_types = k.scalar_types }
 
-  one_more : (c : Around) (Γ : List Ty) (t : ℕ) (T : Ty) → Known b c Γ → At t T → IsBuilt T → Known b (binds c t) (Γ ++ T ∷ [])
-  one_more c Γ t T k h g = record { scope = scope_more b c.scope Γ (whole t) T k.scope (refl, h); built_types = built_more Γ T k.built_types g }
+  one_more : (c : Around) (Γ : List Ty) (t : ℕ) (T : Ty) → Known b c Γ → At t T → IsScalar T → Known b (binds c t) (Γ ++ T ∷ [])
+  one_more c Γ t T k h g = record { scope = scope_more b c.scope Γ (whole t) T k.scope (refl, h); scalar_types = scalar_more Γ T k.scalar_types g }
 
-  is_unit : (T : Ty) → T ≡ unit → IsBuilt T
-  is_unit T e = subst IsBuilt (sym e) tt
+  is_unit : (T : Ty) → T ≡ unit → IsScalar T
+  is_unit T e = subst IsScalar (sym e) tt
 
   -- ---- the shapes
 
-  value_built : (c : Around) (Γ : List Ty) (ts : List (ℕ × Ty)) (r : Rvalue) (T : Ty) → Takes c Γ ts r T → AllBuilt Γ → IsBuilt T
-  value_built c Γ ts r T (of_number h) g = subst IsBuilt (sym h.0) tt
-  value_built c Γ ts r T (of_bool h) g = subst IsBuilt (sym h) tt
-  value_built c Γ ts r T (of_unit h) g = is_unit T h
-  value_built c Γ ts r T (of_copy v p q h) g = built_at Γ v T g h
-  value_built c Γ ts r T (of_minus i h g' e) g = subst IsBuilt (sym g') tt
-  value_built c Γ ts r T (of_not h e) g = subst IsBuilt (sym h) tt
-  value_built c Γ ts r T (of_operation {op = op} {T = U} h e) g = operation_built op U T h
+  value_scalar : (c : Around) (Γ : List Ty) (ts : List (ℕ × Ty)) (r : Rvalue) (T : Ty) → Takes c Γ ts r T → AllScalar Γ → IsScalar T
+  value_scalar c Γ ts r T (of_number h) g = subst IsScalar (sym h.0) tt
+  value_scalar c Γ ts r T (of_bool h) g = subst IsScalar (sym h) tt
+  value_scalar c Γ ts r T (of_unit h) g = is_unit T h
+  value_scalar c Γ ts r T (of_copy v p q h) g = scalar_at Γ v T g h
+  value_scalar c Γ ts r T (of_minus i h g' e) g = subst IsScalar (sym g') tt
+  value_scalar c Γ ts r T (of_not h e) g = subst IsScalar (sym h) tt
+  value_scalar c Γ ts r T (of_operation {op = op} {T = U} h e) g = operation_scalar op U T h
 
   value_typed : (c : Around) (Γ : List Ty) (ts : List (ℕ × Ty)) (r : Rvalue) (T : Ty) → Takes c Γ ts r T → Known b c Γ → EachAt b ts → RvalueHas b r T
   value_typed c Γ ts r T (of_number h) k a = h
@@ -106,7 +108,7 @@ module _ (σ : Surroundings) (bodies : Bodies) (b : Body) (callees : (n : ℕ) (
   unit_typed : (T : Ty) (d : ℕ) (s : Span) → T ≡ unit → At d T → AreTyped bodies b (put_unit s d ∷ [])
   unit_typed T d s e a = ((T, (refl, a), (refl, refl, e)), tt)
 
-  then_made : (t : ℕ) (T : Ty) (xs ys : List Line) → IsBuilt T → (At t T → MadeFits b (made xs) → AreTyped bodies b xs) → (At t T → MadeFits b (made ys) → AreTyped bodies b ys)
+  then_made : (t : ℕ) (T : Ty) (xs ys : List Line) → IsScalar T → (At t T → MadeFits b (made xs) → AreTyped bodies b xs) → (At t T → MadeFits b (made ys) → AreTyped bodies b ys)
       → MadeFits b (made (made_by t T xs ++ ys)) → AreTyped bodies b (made_by t T xs ++ ys)
   then_made t T xs ys g p q m =
       let at_t = made_first b t _ _ m in
@@ -129,10 +131,10 @@ module _ (σ : Surroundings) (bodies : Bodies) (b : Body) (callees : (n : ℕ) (
       let inside = inner c Γ head after k in (
         tt,
         head_fits (is_local b) c (length Γ) (map accepted fs) fs refl (scope_length b c.scope Γ k.scope) (scope_holds b c.scope Γ k.scope) h,
-        then_made t T xs _ (p.built k.built_types tt) (p.typed inside tt tt) (λ at_t n. (
+        then_made t T xs _ (p.scalar k.scalar_types tt) (p.typed inside tt tt) (λ at_t n. (
           (refl, at_type t _ _ at_t e),
           tt,
-          then_made u U ys _ (q.built k.built_types tt) (q.typed inside tt tt) (λ at_u l. (tt, tt, unit_typed V d s v a)) n,
+          then_made u U ys _ (q.scalar k.scalar_types tt) (q.typed inside tt tt) (λ at_u l. (tt, tt, unit_typed V d s v a)) n,
         )) m,
       )
 
@@ -142,7 +144,7 @@ module _ (σ : Surroundings) (bodies : Bodies) (b : Body) (callees : (n : ℕ) (
       let rest = made_rest b u _ _ m in (
         tt,
         head_fits (is_local b) c (length Γ) (map accepted fs) fs refl (scope_length b c.scope Γ k.scope) (scope_holds b c.scope Γ k.scope) h,
-        (q.built k.built_types tt, typed-append bodies b ys _ (q.typed (inner c Γ head head k) tt tt (made_first b u _ _ m) (made_left b ys _ rest)) (tt, tt)),
+        (q.scalar k.scalar_types tt, typed-append bodies b ys _ (q.typed (inner c Γ head head k) tt tt (made_first b u _ _ m) (made_left b ys _ rest)) (tt, tt)),
       )
 
   typed_spinning : (c : Around) (Γ : List Ty) (s : Span) (head after : Label) (fs : List Formula) (u : ℕ) (U : Ty) (ys : List Line) (d : ℕ) (V : Ty) → V ≡ unit → EachSpeaks (length Γ) (map accepted fs)
@@ -150,7 +152,7 @@ module _ (σ : Surroundings) (bodies : Bodies) (b : Body) (callees : (n : ℕ) (
   typed_spinning c Γ s head after fs u U ys d V v h q k a m = (
     tt,
     head_fits (is_local b) c (length Γ) (map accepted fs) fs refl (scope_length b c.scope Γ k.scope) (scope_holds b c.scope Γ k.scope) h,
-    then_made u U ys _ (q.built k.built_types tt) (q.typed (inner c Γ head after k) tt tt) (λ at_u l. (tt, tt, unit_typed V d s v a)) m,
+    then_made u U ys _ (q.scalar k.scalar_types tt) (q.typed (inner c Γ head after k) tt tt) (λ at_u l. (tt, tt, unit_typed V d s v a)) m,
   )
 
   typed_deaths : (s : Span) (ps : List Place) → ((p : Place) → Has p ps → (T : Ty) × At p.local T) → AreTyped bodies b (deaths s ps)
@@ -172,7 +174,7 @@ module _ (σ : Surroundings) (bodies : Bodies) (b : Body) (callees : (n : ℕ) (
       ((w.body, T, w.is_body, subst (OperandsHave b (map moved ts)) (sym w.params) v.1, w.answer ∙ ap Some (sym q), (refl, a), sym (ap length w.ground)), tt, tt)
 
   typed_updated : (c : Around) (Γ : List Ty) (s : Span) (op : BinaryOp) (t u : ℕ) (T : Ty) (p : Place) (U : Ty) (d : ℕ) (V : Ty) (xs : List Line) → operation_ty op T ≡ Some T → T ≡ U → V ≡ unit → NamesTyped bodies b c Γ p U xs
-      → Known b c Γ → IsBuilt T → At t T → At d V → MadeFits b (made (xs ++ (made_by u T (puts s u (Binary op (Copy p) (moved t)) ∷ []) ++ puts_at s p (Use (moved u)) ∷ put_unit s d ∷ [])))
+      → Known b c Γ → IsScalar T → At t T → At d V → MadeFits b (made (xs ++ (made_by u T (puts s u (Binary op (Copy p) (moved t)) ∷ []) ++ puts_at s p (Use (moved u)) ∷ put_unit s d ∷ [])))
       → AreTyped bodies b (xs ++ (made_by u T (puts s u (Binary op (Copy p) (moved t)) ∷ []) ++ puts_at s p (Use (moved u)) ∷ put_unit s d ∷ []))
   typed_updated c Γ s op t u T p U d V xs h e v q k g at_t a m =
       let w = q k (made_left b xs _ m) in
@@ -187,47 +189,47 @@ module _ (σ : Surroundings) (bodies : Bodies) (b : Body) (callees : (n : ℕ) (
 
   keeps_typed : KeepsTyped σ Writes (NamesTyped bodies b) (PassesTyped bodies b)
   keeps_typed = record {
-    put = λ c Γ ts s d r T h. record { built = λ g ts'. value_built c Γ ts r T h g; typed = λ k g at a m. ((T, (refl, a), value_typed c Γ ts r T h k at), tt) };
+    put = λ c Γ ts s d r T h. record { scalar = λ g ts'. value_scalar c Γ ts r T h g; typed = λ k g at a m. ((T, (refl, a), value_typed c Γ ts r T h k at), tt) };
     made = λ c Γ ts t T xs d U ys p q. record {
-      built = λ g h. q.built g (p.built g tt, h);
-      typed = λ k g at a m. let h = p.built k.built_types tt in then_made t T xs ys h (p.typed k tt tt) (λ at_t. q.typed k (h, g) (at_t, at) a) m;
+      scalar = λ g h. q.scalar g (p.scalar g tt, h);
+      typed = λ k g at a m. let h = p.scalar k.scalar_types tt in then_made t T xs ys h (p.typed k tt tt) (λ at_t. q.typed k (h, g) (at_t, at) a) m;
     };
-    left = λ c Γ t T d U xs p. record { built = λ g h. p.built g tt; typed = λ k g at a m. p.typed k tt tt a m };
-    leaving = λ c Γ t T d U xs p q. record { built = q.built; typed = λ k g at a m. (p.built k.built_types tt, q.typed k tt tt a (made_rest b t T (made xs) m)) };
-    panicked = λ c Γ s k d T h. record { built = λ g ts. h; typed = λ k g at a m. (tt, tt) };
-    returned = λ c Γ s xs d T h p. record { built = λ g ts. h; typed = λ k g at a m. typed-append bodies b xs _ (p.typed k tt tt own_answer (made_left b xs _ m)) (tt, tt) };
-    circled = λ c Γ s head fs u U ys d T h f q. record { built = λ g ts. h; typed = λ k g at a m. typed_circling c Γ s head fs u U ys f q k m };
-    broken = λ c Γ s l d T h e. record { built = λ g ts. h; typed = λ k g at a m. typed_jump c Γ s l.depth l.after k };
-    gone_on = λ c Γ s l d T h e. record { built = λ g ts. h; typed = λ k g at a m. typed_jump c Γ s l.depth l.head k };
-    spun = λ c Γ s head after fs u U ys d V v h q. record { built = λ g ts. is_unit V v; typed = λ k g at a m. typed_spinning c Γ s head after fs u U ys d V v h q k a m };
+    left = λ c Γ t T d U xs p. record { scalar = λ g h. p.scalar g tt; typed = λ k g at a m. p.typed k tt tt a m };
+    leaving = λ c Γ t T d U xs p q. record { scalar = q.scalar; typed = λ k g at a m. (p.scalar k.scalar_types tt, q.typed k tt tt a (made_rest b t T (made xs) m)) };
+    panicked = λ c Γ s k d T h. record { scalar = λ g ts. h; typed = λ k g at a m. (tt, tt) };
+    returned = λ c Γ s xs d T h p. record { scalar = λ g ts. h; typed = λ k g at a m. typed-append bodies b xs _ (p.typed k tt tt own_answer (made_left b xs _ m)) (tt, tt) };
+    circled = λ c Γ s head fs u U ys d T h f q. record { scalar = λ g ts. h; typed = λ k g at a m. typed_circling c Γ s head fs u U ys f q k m };
+    broken = λ c Γ s l d T h e. record { scalar = λ g ts. h; typed = λ k g at a m. typed_jump c Γ s l.depth l.after k };
+    gone_on = λ c Γ s l d T h e. record { scalar = λ g ts. h; typed = λ k g at a m. typed_jump c Γ s l.depth l.head k };
+    spun = λ c Γ s head after fs u U ys d V v h q. record { scalar = λ g ts. is_unit V v; typed = λ k g at a m. typed_spinning c Γ s head after fs u U ys d V v h q k a m };
     bound = λ outer c Γ s t T d U xs p. record {
-      built = λ g h. p.built (built_more Γ T g h.0) tt;
+      scalar = λ g h. p.scalar (scalar_more Γ T g h.0) tt;
       typed = λ k g at a m. typed-append bodies b xs _ (p.typed (one_more c Γ t T k at.0 g.0) tt tt a (made_left b xs _ m)) (typed_dies outer s t T at.0);
     };
     tested = λ c Γ s t T yes' no' after d U xs ys e p q. record {
-      built = λ g h. p.built g tt;
+      scalar = λ g h. p.scalar g tt;
       typed = λ k g at a m. typed_test c s t yes' no' after xs ys (at_type t _ _ at.0 e) (p.typed k tt tt a) (q.typed k tt tt a) m;
     };
     forked = λ c Γ s t T yes' no' d U xs ys e p q. record {
-      built = λ g h. p.built g tt;
+      scalar = λ g h. p.scalar g tt;
       typed = λ k g at a m. typed_fork c s t yes' no' xs ys (at_type t _ _ at.0 e) (p.typed k tt tt a) (q.typed k tt tt a) m;
     };
-    turned = λ c Γ s head body after fs t T xs u U ys d V e v h p q. record { built = λ g ts. is_unit V v; typed = λ k g at a m. typed_turning c Γ s head body after fs t T xs u U ys d V e v h p q k a m };
+    turned = λ c Γ s head body after fs t T xs u U ys d V e v h p q. record { scalar = λ g ts. is_unit V v; typed = λ k g at a m. typed_turning c Γ s head body after fs t T xs u U ys d V e v h p q k a m };
     named = λ c Γ v p T q h k m. (tt, scope_at b c.scope Γ v p T k.scope q h);
-    temporary = λ c Γ t T xs p k m. let at_t = made_first b t _ _ m in ((p.built k.built_types tt, p.typed k tt tt at_t (made_rest b t _ _ m)), (refl, at_t));
+    temporary = λ c Γ t T xs p k m. let at_t = made_first b t _ _ m in ((p.scalar k.scalar_types tt, p.typed k tt tt at_t (made_rest b t _ _ m)), (refl, at_t));
     assigned = λ c Γ s t T p U d V xs e v q. record {
-      built = λ g ts. is_unit V v;
+      scalar = λ g ts. is_unit V v;
       typed = λ k g at a m. let w = q k (made_left b xs _ m) in typed-append bodies b xs _ w.0 ((U, w.1, (refl, at_type t _ _ at.0 e)), unit_typed V d s v a);
     };
-    updated = λ c Γ s op t u T p U d V xs h e v q. record { built = λ g ts. is_unit V v; typed = λ k g at a m. typed_updated c Γ s op t u T p U d V xs h e v q k g.0 at.0 a m };
+    updated = λ c Γ s op t u T p U d V xs h e v q. record { scalar = λ g ts. is_unit V v; typed = λ k g at a m. typed_updated c Γ s op t u T p U d V xs h e v q k g.0 at.0 a m };
     no_arguments = λ c Γ k m. (tt, tt);
     argument = λ c Γ t T U xs ts Ts ys e p q k m.
         let at_t = made_first b t _ _ m in
         let rest = made_rest b t _ _ m in
         let w = q k (made_right b xs ys rest) in
-        ((p.built k.built_types tt, typed-append bodies b xs ys (p.typed k tt tt at_t (made_left b xs ys rest)) w.0), ((refl, at_type t _ _ at_t e), w.1));
-    called = λ c Γ s f g ts after d T xs e q p. record { built = λ g' ts'. subst IsBuilt (sym q) (answers f g e); typed = λ k g' at a m. typed_call c Γ s f g ts after d T xs e q p k a m };
+        ((p.scalar k.scalar_types tt, typed-append bodies b xs ys (p.typed k tt tt at_t (made_left b xs ys rest)) w.0), ((refl, at_type t _ _ at_t e), w.1));
+    called = λ c Γ s f g ts after d T xs e q p. record { scalar = λ g' ts'. subst IsScalar (sym q) (answers f g e); typed = λ k g' at a m. typed_call c Γ s f g ts after d T xs e q p k a m };
   }
 
-  pub text_typed : (i : Bool) (c : Around) (e : TypedExpr) (xs : List Line) → IntoBody c e xs → (Γ : List Ty) → Known b c Γ → IsWellTyped (within_loop i σ) Γ e → At 0 (ty_of e) → MadeFits b (made xs) → AreTyped bodies b xs
+  pub text_typed : (i : Bool) (c : Around) (e : TypedExpr) (xs : List Line) → IntoBody c e xs → (Γ : List Ty) → Known b c Γ → IsPlainlyTyped (within_loop i σ) Γ e → At 0 (ty_of e) → MadeFits b (made xs) → AreTyped bodies b xs
   text_typed i c e xs p Γ k h a m = (of_typed_body σ Writes (NamesTyped bodies b) (PassesTyped bodies b) keeps_typed i c e xs p Γ h).typed k tt tt a m

@@ -1,4 +1,4 @@
--- The laws of programs that lower and fit.
+-- The laws of programs that lower, fit and are plain.
 use Rattle.std.proofs.Common.{◌≡◌, refl, ap, sym, ◌∙◌, subst, ℕ, zero, suc, ◌+◌, List, [], ◌∷◌, take, drop, map, length, Some, None, slice_get, arith, false, Option}
 use Rattle.logic_term.specs.declared.declaration.AdtDecl.{AdtDecl}
 use Rattle.logic_term.specs.declared.obligation.Contract.{Contract}
@@ -9,18 +9,20 @@ use Rattle.mir_ir.specs.declared.body.Initialised.{Initialised}
 use Rattle.mir_ir.specs.WellFormed.{IsTyped, Labelling, MeetsMoveRows}
 use Rattle.type_check.specs.declared.program.Signature.{Signature}
 use Rattle.type_check.specs.declared.program.TypedFunction.{TypedFunction}
-use Rattle.type_check.specs.WellTyped.{IsBuilt, FunctionFits, EachFits, signatures}
+use Rattle.type_check.specs.Plain.{IsScalar, FunctionIsPlain, EachIsPlain}
+use Rattle.type_check.specs.WellTyped.{FunctionFits, EachFits, signatures}
 use Rattle.mir_build.specs.Laws.{Lowers, HeadsAreThere, BodiesAreSound, BodiesAreLaidOut, LocalsHaveNames, LocalsHaveBuiltTypes, HeadsSpeakOfWhatIsThere, ContractsSpeakOfParameters}
 use Rattle.mir_build.specs.Lowering.{counted, whole, HasContract, LowersTo, EachLowersTo, no_functions, and_function}
 use Rattle.mir_build.proofs.LawTyped.{ScopeFits}
 use Rattle.mir_build.proofs.LawTypes.{Callee}
 use Rattle.mir_build.proofs.LawFunction.{answer_fits, scope_fits, body_typed, body_laid_out, start}
-use Rattle.mir_build.proofs.LawLocals.{locals_are_named, types_built}
+use Rattle.mir_build.proofs.LawLocals.{locals_are_named, types_scalar}
 use Rattle.mir_build.proofs.LawContracts.{contract_speaks}
 use Rattle.mir_build.proofs.LawHeads.{labelled, heads_speak}
 use Rattle.mir_ir.specs.declared.body.Bodies.{Bodies}
 use Rattle.mir_build.proofs.LawInit.{IsLabelled}
 use Rattle.mir_build.proofs.Basics.{some_same}
+use Rattle.mir_build.proofs.PlainTyping.{FunctionFitsPlainly, fits_plainly}
 
 -- the function of a place, and its body; the first function has this number
 pub record FunctionAt (σ : List Signature) (first : ℕ) (fs : List TypedFunction) (bs : List Body) (cs : List Contract) (gones : List Initialised) (n : ℕ) (f : TypedFunction) (b : Body) : Type 0 where
@@ -61,6 +63,11 @@ pub fits_at : (σ : List Signature) (fs : List TypedFunction) → EachFits σ fs
 fits_at σ [] h n f e = absurd (cc)
 fits_at σ (g ∷ fs) h zero f e = subst (FunctionFits σ) (some_same e) h.0
 fits_at σ (g ∷ fs) h (suc n) f e = fits_at σ fs h.1 n f e
+
+plain_at : (fs : List TypedFunction) → EachIsPlain fs → (n : ℕ) (f : TypedFunction) → slice_get fs n ≡ Some f → FunctionIsPlain f
+plain_at [] h n f e = absurd (cc)
+plain_at (g ∷ fs) h zero f e = subst FunctionIsPlain (some_same e) h.0
+plain_at (g ∷ fs) h (suc n) f e = plain_at fs h.1 n f e
 
 signature_at : (fs : List TypedFunction) (n : ℕ) (g : Signature) → slice_get (signatures fs) n ≡ Some g → (f : TypedFunction) × (slice_get fs n ≡ Some f) × (f.signature ≡ g)
 signature_at [] n g e = absurd (cc)
@@ -106,10 +113,10 @@ module _ (table : List (List ℕ)) (ds : List AdtDecl) (fs : List TypedFunction)
         answer = answer_fits v.1.owner w.0 v.0 v.1.gone u ∙ ap (λ (s : Signature). Some s.answer) w.2;
       }
 
-  answer_built : (n : ℕ) (g : Signature) → slice_get (signatures fs) n ≡ Some g → IsBuilt g.answer
-  answer_built n g e =
+  answer_scalar : (n : ℕ) (g : Signature) → slice_get (signatures fs) n ≡ Some g → IsScalar g.answer
+  answer_scalar n g e =
       let w = signature_at fs n g e in
-      subst (λ (s : Signature). IsBuilt s.answer) w.2 (fits_at (signatures fs) fs l.fits n w.0 w.1).answer
+      subst (λ (s : Signature). IsScalar s.answer) w.2 (plain_at fs l.plain n w.0 w.1).answer
 
   module _ (n : ℕ) (b : Body) (is_body : slice_get bs.bodies n ≡ Some b) where
     found : (f : TypedFunction) × FunctionAt (signatures fs) 0 fs bs.bodies cs.of gones n f b
@@ -121,17 +128,20 @@ module _ (table : List (List ℕ)) (ds : List AdtDecl) (fs : List TypedFunction)
     fit : FunctionFits (signatures fs) found.0
     fit = fits_at (signatures fs) fs l.fits n found.0 found.1.is_function
 
-    typed : IsTyped bs b
-    typed = body_typed found.1.owner found.0 b found.1.gone found.1.lowers (signatures fs) bs fit callee answer_built
+    plainly : FunctionFitsPlainly (signatures fs) found.0
+    plainly = fits_plainly (signatures fs) found.0 (plain_at fs l.plain n found.0 found.1.is_function) fit
 
-    abbrev labels : IsLabelled b (start found.1.owner found.0 b found.1.gone found.1.lowers (signatures fs) fit)
-    labels = labelled found.1.owner found.0 b found.1.gone found.1.lowers (signatures fs) bs fit callee answer_built
+    typed : IsTyped bs b
+    typed = body_typed found.1.owner found.0 b found.1.gone found.1.lowers (signatures fs) bs plainly callee answer_scalar
+
+    abbrev labels : IsLabelled b (start found.1.owner found.0 b found.1.gone found.1.lowers (signatures fs) plainly)
+    labels = labelled found.1.owner found.0 b found.1.gone found.1.lowers (signatures fs) bs plainly callee answer_scalar
 
     initialised : (at : Labelling) × MeetsMoveRows b at × HeadsAreThere b found.1.gone at
     initialised = (
       labels.at,
       labels.moves,
-      heads_speak found.1.owner found.0 b found.1.gone found.1.lowers (signatures fs) bs fit callee answer_built,
+      heads_speak found.1.owner found.0 b found.1.gone found.1.lowers (signatures fs) bs plainly callee answer_scalar,
     )
 
 -- ---- the laws
@@ -154,7 +164,7 @@ locals_have_names table ds fs bs cs gones l n b e =
 pub locals_have_built_types : LocalsHaveBuiltTypes
 locals_have_built_types table ds fs bs cs gones l n b e x t h =
     let w = found table ds fs bs cs gones l n b e in
-    types_built w.1.owner w.0 b w.1.gone w.1.lowers (signatures fs) bs (fit table ds fs bs cs gones l n b e) (callee table ds fs bs cs gones l) (answer_built table ds fs bs cs gones l) x t h
+    types_scalar w.1.owner w.0 b w.1.gone w.1.lowers (signatures fs) bs (plainly table ds fs bs cs gones l n b e) (callee table ds fs bs cs gones l) (answer_scalar table ds fs bs cs gones l) x t h
 
 module _ (table : List (List ℕ)) (ds : List AdtDecl) (fs : List TypedFunction) (bs : Bodies) (cs : Contracts) (gones : List Initialised) (l : Lowers table ds fs bs cs gones) where
   -- the labelling of the body that is found; any where there is none

@@ -29,6 +29,7 @@ pub mod OneBody
 pub mod OneText
 pub mod Order
 pub mod Parts
+pub mod PlainTyping
 pub mod Rows
 pub mod Rowwise
 pub mod Runs

@@ -4,21 +4,20 @@ use Rattle.std.proofs.lemmas.Option.{get_or_from_slice_get}
 use Rattle.text_core.specs.declared.span.Span.{Span}
 use Rattle.mir_ir.specs.declared.place.Operand.TheVariants.{Copy}
 use Rattle.mir_ir.specs.declared.place.Place.{Place}
-use Rattle.mir_ir.specs.declared.statement.Rvalue.TheVariants.{Use, Binary, Neg, Not}
+use Rattle.mir_ir.specs.declared.statement.Rvalue.TheVariants.{Use, Binary, Neg, Not, Make}
 use Rattle.mir_ir.specs.declared.terminator.FnId.TheVariants as fn_id
 use Rattle.mir_ir.specs.declared.terminator.Callee.TheVariants.{Function}
 use Rattle.mir_ir.specs.declared.terminator.TerminatorKind.TheVariants.{Goto, If, Call, Return}
-use Rattle.type_check.specs.TypedExpr.{TypedExpr, TypedStmts, TypedExprs, block}
+use Rattle.type_check.specs.TypedExpr.{TypedExpr, TypedStmts, TypedExprs, variable, part, block}
 use Rattle.type_check.specs.TypedExprView.{ty_of}
 use Rattle.mir_build.specs.declared.around.Loop.{Loop}
 use Rattle.mir_build.specs.Text.{Line, Makes, Turns, Leaves, Owns, made}
-use Rattle.mir_build.specs.Lowering.{Around, binds, looping, at, at_head, head_of, whole, puts, puts_at, put_unit, moved, ends, innermost, dies_in, die_from, numbers, lazily, test, fork}
-use Rattle.mir_build.specs.Lowering.{Into, of_integer, of_truth, of_variable, of_negative, of_denied, of_binary, of_lazy, of_assign, of_update, of_call, of_block, of_branch, of_choice, of_leaving_choice, of_repeat, of_panics, of_returned, of_endless, of_until_break, of_break_off, of_go_on}
-use Rattle.mir_build.specs.Lowering.{Rest, of_done, of_last, of_leaving, of_bind, of_run, Args, of_none, of_more, PlaceOf, of_name, of_temporary, is_place, IntoBody, of_outermost, of_other, is_block, named, named_place, named_rest, named_args, named_body}
-use Rattle.mir_build.specs.Numbered.{no_loop, loop_at, place_of, temporary_count, temporary_text, if_text, into, rest, args, body_text, labels, locals, temporaries, label, variable_place}
+use Rattle.mir_build.specs.Lowering.{Around, binds, looping, at, at_head, head_of, whole, part_place, puts, puts_at, put_unit, moved, ends, innermost, dies_in, die_from, numbers, lazily, test, fork}
+use Rattle.mir_build.specs.Lowering.{Into, of_integer, of_truth, of_variable, of_negative, of_denied, of_binary, of_lazy, of_assign, of_update, of_call, of_make, of_part, of_block, of_branch, of_choice, of_leaving_choice, of_repeat, of_panics, of_returned, of_endless, of_until_break, of_break_off, of_go_on}
+use Rattle.mir_build.specs.Lowering.{Rest, of_done, of_last, of_leaving, of_bind, of_run, Args, of_none, of_more, PlaceOf, of_name, of_part_place, of_temporary, is_place, IntoBody, of_outermost, of_other, is_block, named, named_place, named_rest, named_args, named_body}
+use Rattle.mir_build.specs.Numbered.{no_loop, loop_at, place_of, temporary_count, place_text, place_before, text_before, if_text, into, rest, args, body_text, labels, locals, temporaries, label, variable_place}
 use Rattle.mir_build.proofs.Numbers.{makings}
 use Rattle.mir_build.proofs.Fills.{fills, target_fills, numbers_of}
-use Rattle.mir_build.proofs.Targets.{one_temporary_text, whole_temporary}
 use Rattle.mir_build.proofs.Order.{InOrder}
 use Rattle.mir_build.proofs.Accepted.{formulas_are}
 use Rattle.mir_build.proofs.Rows.{own_local, own_locals}
@@ -37,8 +36,17 @@ inner c l q = sym (get_or_from_slice_get c.loops (length c.loops - 1) l no_loop 
 behind : (e : TypedExpr) (c : Around) (l t d : ℕ) (xs ys : List Line) → xs ≡ into e c l t d → InOrder t (xs ++ ys) → InOrder (t + locals e) ys
 behind e c l t d xs ys q h = order_right t (t + locals e) xs ys (omega (arith, ap makings q, (fills e c l t d).making)) h
 
-behind_target : (e : TypedExpr) (c : Around) (l t : ℕ) (xs ys : List Line) → xs ≡ temporary_text (is_place e) t (ty_of e) (into e c l (t + 1) t) → InOrder t (xs ++ ys) → InOrder (t + temporary_count (is_place e) + locals e) ys
+behind_target : (e : TypedExpr) (c : Around) (l t : ℕ) (xs ys : List Line) → xs ≡ text_before e c l t → InOrder t (xs ++ ys) → InOrder (t + temporary_count (is_place e) + locals e) ys
 behind_target e c l t xs ys q h = order_right t (t + temporary_count (is_place e) + locals e) xs ys (omega (arith, ap makings q, (target_fills e c l t).making)) h
+
+-- the place of what names none, and the text before it
+whole_temporary : (scope : List Place) (t : ℕ) (e : TypedExpr) → is_place e ≡ false → place_of scope t e ≡ whole t
+whole_temporary scope t (variable ty s v) h = absurd (true≢false h)
+whole_temporary scope t (part ty s e n) h = absurd (true≢false h)
+whole_temporary scope t e h = refl
+
+temporary_before : (e : TypedExpr) (c : Around) (l t : ℕ) → is_place e ≡ false → text_before e c l t ≡ Makes t (ty_of e) ∷ into e c l (t + 1) t
+temporary_before e c l t h = ap (λ b. place_text b t (ty_of e) (place_before e c l t) (into e c l (t + 1) t)) h
 
 mutual
   one_text : (c : Around) (e : TypedExpr) (d : ℕ) (xs : List Line) (p : Into c e d xs) (l t : ℕ) → From l (named p) → InOrder t xs → xs ≡ into e c l t d
@@ -81,6 +89,12 @@ mutual
       let w = one_args c es ts us p l t (from_left l (named_args p) _ n) (order_left t us _ o) in
       let k = labels_behind_args p l (after.0 ∷ []) n in
       λ i. w.1 i ++ Turns (ends s (Call (whole d) (Function (fn_id.Body f)) [] (map moved (w.0 i)) (label (k.0 i)))) (at c (label (k.0 i))) ∷ []
+  one_text c e d xs (of_make {s = s} {k = k} {es = es} {ts = ts} {xs = us} p) l t n o =
+      let w = one_args c es ts us p l t n (order_left t us _ o) in
+      λ i. w.1 i ++ puts s d (Make k (map moved (w.0 i))) ∷ []
+  one_text c e d xs (of_part {ty = ty} {s = s} {e = a} {n = m} {p = z} {xs = us} p) l t n o =
+      let y = one_place c (part ty s a m) z us p l t n (order_left t us _ o) in
+      λ i. y.1 i ++ puts s d (Use (Copy (y.0 i))) ∷ []
   one_text c e d xs (of_block p) l t n o = one_rest c false _ _ d xs p l t n o
   one_text c e d xs (of_branch {s = s} {e = a} {a = b} {t = t'} yes' no' after {xs = us} {ys = vs} p q) l t n o =
       let m = l + labels a in
@@ -141,11 +155,14 @@ mutual
   one_text c e d xs (of_go_on {s = s} m q) l t n o = λ i. die_from s (inner c m q i).depth c.scope ++ Leaves (ends s (Goto (inner c m q i).head)) ∷ []
 
   one_place : (c : Around) (e : TypedExpr) (x : Place) (xs : List Line) (p : PlaceOf c e x xs) (l t : ℕ) → From l (named_place p) → InOrder t xs
-      → (x ≡ place_of c.scope t e) × (xs ≡ temporary_text (is_place e) t (ty_of e) (into e c l (t + 1) t))
+      → (x ≡ place_of c.scope t e) × (xs ≡ text_before e c l t)
   one_place c e x xs (of_name {v = v} y q) l t n o = (found c.scope v y q, refl)
+  one_place c e x xs (of_part_place {e = a} {n = m} {p = z} {xs = us} p) l t n o =
+      let y = one_place c a z us p l t n o in
+      (ap (λ w. part_place w m) y.0, y.1)
   one_place c e x xs (of_temporary {t = t'} {xs = us} k p) l t n o =
       let y = one_text c e t' us p l (t + 1) n o.1 ∙ ap (into e c l (t + 1)) o.0 in
-      (ap whole o.0 ∙ sym (whole_temporary c.scope t e k), (λ i. Makes (o.0 i) (ty_of e) ∷ y i) ∙ sym (one_temporary_text e t (ty_of e) (into e c l (t + 1) t) k))
+      (ap whole o.0 ∙ sym (whole_temporary c.scope t e k), (λ i. Makes (o.0 i) (ty_of e) ∷ y i) ∙ sym (temporary_before e c l t k))
 
   one_rest : (c : Around) (outer : Bool) (s : Span) (ss : TypedStmts) (d : ℕ) (xs : List Line) (p : Rest c outer s ss d xs) (l t : ℕ) → From l (named_rest p) → InOrder t xs → xs ≡ rest ss outer s c l t d
   one_rest c outer s ss d xs of_done l t n o = refl

@@ -7,20 +7,19 @@ use Rattle.logic_term.specs.declared.kinds.Label.{Label}
 use Rattle.logic_term.specs.Ty.{Ty}
 use Rattle.mir_ir.specs.declared.place.Place.{Place}
 use Rattle.type_check.specs.declared.assertion.Assertion.{Assertion}
-use Rattle.type_check.specs.TypedExpr.{TypedExpr, TypedStmts, TypedExprs, integer, truth, variable, negative, denied, binary, lazy, assign, update, call, block, branch, choice, repeat, panics, returned, endless, until_break, break_off, go_on, done, last, leaving, bind, run, none, more}
+use Rattle.type_check.specs.TypedExpr.{TypedExpr, TypedStmts, TypedExprs, integer, truth, variable, negative, denied, binary, lazy, assign, update, call, make, part, block, branch, choice, repeat, panics, returned, endless, until_break, break_off, go_on, done, last, leaving, bind, run, none, more}
 use Rattle.type_check.specs.Leaves.{leaves}
 use Rattle.type_check.specs.TypedExprView.{ty_of}
 use Rattle.type_check.specs.FirstBad.{bad_among, bad_in, bad_in_stmts, bad_in_exprs}
 use Rattle.type_check.specs.Answers.{or_else}
-use Rattle.type_check.specs.WellTyped.{Surroundings, within_loop, IsWellTyped, StatementsFit, ArgumentsFit}
-use Rattle.mir_build.specs.Lowering.{is_place, Around, accepted, whole, binds, looping, innermost, Into, of_integer, of_truth, of_variable, of_negative, of_denied, of_binary, of_lazy, of_assign, of_update, of_call, of_block, of_branch}
-use Rattle.mir_build.specs.Lowering.{of_choice, of_leaving_choice, of_repeat, of_panics, of_returned, of_endless, of_until_break, of_break_off, of_go_on, Rest, of_done, of_last, of_leaving, of_bind, of_run, Args, of_none, of_more, PlaceOf, of_name, of_temporary, IntoBody, of_outermost, of_other, named, named_place, named_rest, named_args, named_body}
+use Rattle.type_check.specs.WellTyped.{Surroundings, within_loop, IsWellTyped, StatementsFit, ArgumentsFit, PartsFit}
+use Rattle.mir_build.specs.Lowering.{is_place, Around, accepted, whole, binds, looping, innermost, Into, of_integer, of_truth, of_variable, of_negative, of_denied, of_binary, of_lazy, of_assign, of_update, of_call, of_make, of_part, of_block, of_branch}
+use Rattle.mir_build.specs.Lowering.{of_choice, of_leaving_choice, of_repeat, of_panics, of_returned, of_endless, of_until_break, of_break_off, of_go_on, Rest, of_done, of_last, of_leaving, of_bind, of_run, Args, of_none, of_more, PlaceOf, of_name, of_part_place, of_temporary, IntoBody, of_outermost, of_other, named, named_place, named_rest, named_args, named_body}
 use Rattle.mir_build.specs.Text.{Line, Makes}
-use Rattle.mir_build.specs.Numbered.{no_loop, loop_at, place_of, temporary_text, choice_labels, choice_text, formula_of, into, rest, args, body_text, labels, labels_in, locals, temporaries, label, variable_place, between}
+use Rattle.mir_build.specs.Numbered.{no_loop, loop_at, place_of, text_before, place_before, choice_labels, choice_text, formula_of, into, rest, args, body_text, labels, labels_in, locals, temporaries, label, variable_place, between}
 use Rattle.mir_build.proofs.Accepted.{first_none, second_none, all_accepted}
 use Rattle.mir_build.proofs.Fills.{numbers_of}
 use Rattle.mir_build.proofs.Following.{From, then_two, then_three}
-use Rattle.mir_build.proofs.Leaving.{leaving_value}
 use Rattle.mir_build.proofs.Rowwise.{labels_then, labels_then_args}
 
 -- there is a place for each variable
@@ -76,11 +75,11 @@ ArgsLowered c es ts l xs = (p : Args c es ts xs) × From l (named_args p)
 abbrev pub PlaceLowered : Around → TypedExpr → Place → ℕ → List Line → Type 0
 PlaceLowered c e x l xs = (p : PlaceOf c e x xs) × From l (named_place p)
 
--- what an assignment writes
-target : (σ : Surroundings) (Γ : List Ty) (e : TypedExpr) (c : Around) (l t : ℕ) → IsFor Γ c.scope → IsWellTyped σ Γ e → Lowered c e t l (into e c l (t + 1) t)
-    → PlaceLowered c e (place_of c.scope t e) l (temporary_text (is_place e) t (ty_of e) (into e c l (t + 1) t))
-target σ Γ (variable ty s v) c l t h w p = (of_name _ (in_scope Γ c.scope v ty h w), tt)
-target σ Γ e c l t h w p = (of_temporary refl p.0, p.1)
+-- a place, where what names one is lowered, and the value of what names none
+target : (e : TypedExpr) (c : Around) (l t : ℕ) → (is_place e ≡ true → PlaceLowered c e (place_of c.scope t e) l (place_before e c l t)) → Lowered c e t l (into e c l (t + 1) t) → PlaceLowered c e (place_of c.scope t e) l (text_before e c l t)
+target (variable ty s v) c l t q p = q refl
+target (part ty s e n) c l t q p = q refl
+target e c l t q p = (of_temporary refl p.0, p.1)
 
 -- a loop, by its condition and its body
 looped : (ty : Ty) (s : Span) (is : List Assertion) (e b : TypedExpr) (c : Around) (l t d : ℕ) → is ≡ map accepted (map formula_of is) → Lowered (looping c (label l) (label (l + 2))) e t (l + 3) (into e (looping c (label l) (label (l + 2))) (l + 3) (t + 1) t)
@@ -143,17 +142,25 @@ mutual
   lowers σ Γ (assign ty s a e) c l t d h o w g =
       let u = t + 1 + locals e in
       let p = lowers σ Γ e c l (t + 1) t h o w.3 (second_none (bad_in a) (bad_in e) g) in
-      let q = target σ Γ a c (l + labels e) u h w.2 (lowers σ Γ a c (l + labels e) (u + 1) u h o w.2 (first_none (bad_in a) (bad_in e) g)) in
+      let f = first_none (bad_in a) (bad_in e) g in
+      let q = target a c (l + labels e) u (places σ Γ a c (l + labels e) u h o w.2 f) (lowers σ Γ a c (l + labels e) (u + 1) u h o w.2 f) in
       (of_assign p.0 q.0, labels_then p.0 l (named_place q.0) p.1 q.1)
   lowers σ Γ (update ty s op a e) c l t d h o w g =
       let u = t + 1 + locals e in
       let p = lowers σ Γ e c l (t + 1) t h o w.4 (second_none (bad_in a) (bad_in e) g) in
-      let q = target σ Γ a c (l + labels e) u h w.3 (lowers σ Γ a c (l + labels e) (u + 1) u h o w.3 (first_none (bad_in a) (bad_in e) g)) in
+      let f = first_none (bad_in a) (bad_in e) g in
+      let q = target a c (l + labels e) u (places σ Γ a c (l + labels e) u h o w.3 f) (lowers σ Γ a c (l + labels e) (u + 1) u h o w.3 f) in
       (of_update _ p.0 q.0, labels_then p.0 l (named_place q.0) p.1 q.1)
   lowers σ Γ (call ty s f es) c l t d h o w g =
       let m = l + labels_in es in
       let p = arguments σ Γ es c l t _ h o w.3 g in
       (of_call (label m) p.0, labels_then_args p.0 l (m ∷ []) p.1 (refl, tt))
+  lowers σ Γ (make ty s k es) c l t d h o w g =
+      let p = made_of σ Γ es c l t h o w.1 g in
+      (of_make p.0, p.1)
+  lowers σ Γ (part ty s e n) c l t d h o w g =
+      let q = target e c l t (places σ Γ e c l t h o w.1 g) (lowers σ Γ e c l (t + 1) t h o w.1 g) in
+      (of_part (of_part_place q.0), q.1)
   lowers σ Γ (block ty s ss) c l t d h o w g =
       let p = rests σ Γ ty ss false s c l t d h o w g in
       (of_block p.0, p.1)
@@ -190,6 +197,14 @@ mutual
   lowers σ Γ (break_off ty s) c l t d h o w g = (of_break_off (loop_at c.loops) (innermost_is c (o w.1)), tt)
   lowers σ Γ (go_on ty s) c l t d h o w g = (of_go_on (loop_at c.loops) (innermost_is c (o w.1)), tt)
 
+  -- what names a place
+  places : (σ : Surroundings) (Γ : List Ty) (e : TypedExpr) (c : Around) (l t : ℕ) → IsFor Γ c.scope → HasLoop σ c → IsWellTyped σ Γ e → bad_in e ≡ None → is_place e ≡ true → PlaceLowered c e (place_of c.scope t e) l (place_before e c l t)
+  places σ Γ (variable ty s v) c l t h o w g e = (of_name _ (in_scope Γ c.scope v ty h w), tt)
+  places σ Γ (part ty s a n) c l t h o w g e =
+      let q = target a c l t (places σ Γ a c l t h o w.1 g) (lowers σ Γ a c l (t + 1) t h o w.1 g) in
+      (of_part_place q.0, q.1)
+  places σ Γ _ c l t h o w g e = absurd (true≢false (sym e))
+
   pub rests : (σ : Surroundings) (Γ : List Ty) (ty : Ty) (ss : TypedStmts) (outer : Bool) (s : Span) (c : Around) (l t d : ℕ) → IsFor Γ c.scope → HasLoop σ c → StatementsFit σ Γ ty ss → bad_in_stmts ss ≡ None
       → RestLowered c outer s ss d l (rest ss outer s c l t d)
   rests σ Γ ty done outer s c l t d h o w g = (of_done, tt)
@@ -197,7 +212,7 @@ mutual
       let p = lowers σ Γ e c l t d h o w.1 g in
       (of_last p.0, p.1)
   rests σ Γ ty (leaving e) outer s c l t d h o w g =
-      let p = lowers σ Γ e c l (t + 1) t h o (leaving_value σ Γ ty e w) g in
+      let p = lowers σ Γ e c l (t + 1) t h o w.2 g in
       (of_leaving p.0, p.1)
   rests σ Γ ty (bind e ss) outer s c l t d h o w g =
       let p = lowers σ Γ e c l (t + 1) t h o w.0 (first_none (bad_in e) (bad_in_stmts ss) g) in
@@ -214,6 +229,13 @@ mutual
   arguments σ Γ (more e es) c l t (ty ∷ ts) h o w g =
       let p = lowers σ Γ e c l (t + 1) t h o w.1 (first_none (bad_in e) (bad_in_exprs es) g) in
       let q = arguments σ Γ es c (l + labels e) (t + 1 + locals e) ts h o w.2 (second_none (bad_in e) (bad_in_exprs es) g) in
+      (of_more p.0 q.0, labels_then p.0 l (named_args q.0) p.1 q.1)
+
+  made_of : (σ : Surroundings) (Γ : List Ty) (es : TypedExprs) (c : Around) (l t : ℕ) → IsFor Γ c.scope → HasLoop σ c → PartsFit σ Γ es → bad_in_exprs es ≡ None → ArgsLowered c es (temporaries es t) l (args es c l t)
+  made_of σ Γ none c l t h o w g = (of_none, tt)
+  made_of σ Γ (more e es) c l t h o w g =
+      let p = lowers σ Γ e c l (t + 1) t h o w.0 (first_none (bad_in e) (bad_in_exprs es) g) in
+      let q = made_of σ Γ es c (l + labels e) (t + 1 + locals e) h o w.1 (second_none (bad_in e) (bad_in_exprs es) g) in
       (of_more p.0 q.0, labels_then p.0 l (named_args q.0) p.1 q.1)
 
 pub lowers_body : (σ : Surroundings) (Γ : List Ty) (e : TypedExpr) (c : Around) (l t : ℕ) → IsFor Γ c.scope → HasLoop σ c → IsWellTyped σ Γ e → bad_in e ≡ None → (p : IntoBody c e (body_text e c l t)) × From l (named_body p)

@@ -8,8 +8,8 @@ use Rattle.source_kinds.specs.declared.kinds.LazyOp.TheVariants.{And, Or}
 use Rattle.type_check.specs.TypedExpr.{TypedExpr, TypedStmts, TypedExprs}
 use Rattle.mir_ir.specs.declared.terminator.TerminatorKind.TheVariants.{Goto}
 use Rattle.mir_build.specs.Text.{Line, Leaves}
-use Rattle.mir_build.specs.Lowering.{Around, ends, lazily, Into, of_integer, of_truth, of_variable, of_negative, of_denied, of_binary, of_lazy, of_assign, of_update, of_call, of_block}
-use Rattle.mir_build.specs.Lowering.{of_branch, of_choice, of_leaving_choice, of_repeat, of_panics, of_returned, of_endless, of_until_break, of_break_off, of_go_on, Rest, of_done, of_last, of_leaving, of_bind, of_run, Args, of_none, of_more, PlaceOf, of_name, of_temporary, IntoBody, of_outermost, of_other, named, named_place, named_rest, named_args}
+use Rattle.mir_build.specs.Lowering.{Around, ends, lazily, Into, of_integer, of_truth, of_variable, of_negative, of_denied, of_binary, of_lazy, of_assign, of_update, of_call, of_make, of_part, of_block}
+use Rattle.mir_build.specs.Lowering.{of_branch, of_choice, of_leaving_choice, of_repeat, of_panics, of_returned, of_endless, of_until_break, of_break_off, of_go_on, Rest, of_done, of_last, of_leaving, of_bind, of_run, Args, of_none, of_more, PlaceOf, of_name, of_part_place, of_temporary, IntoBody, of_outermost, of_other, named, named_place, named_rest, named_args}
 use Rattle.mir_build.specs.Numbered.{choice_labels, labels, labels_of, labels_in}
 use Rattle.mir_build.proofs.Following.{From, from_right, from_both}
 use Rattle.mir_build.proofs.Jumps.{deaths, no_deaths_turn}
@@ -55,6 +55,12 @@ mutual
   counts c e d xs (of_call after p) =
       let x = args_counts c _ _ _ p in
       (omega (arith, length-append (named_args p) (after.0 ∷ []), x.0), simp turns-append (omega (arith, x.1)))
+  counts c e d xs (of_make p) =
+      let x = args_counts c _ _ _ p in
+      (x.0, simp turns-append (omega (arith, x.1)))
+  counts c e d xs (of_part p) =
+      let x = place_counts c _ _ _ p in
+      (x.0, simp turns-append (omega (arith, x.1)))
   counts c e d xs (of_block p) = rest_counts c _ _ _ _ _ p
   counts c e d xs (of_branch yes' no' after p q) =
       let x = counts c _ _ _ p in
@@ -91,6 +97,7 @@ mutual
 
   place_counts : (c : Around) (e : TypedExpr) (x : Place) (xs : List Line) (p : PlaceOf c e x xs) → Counts (labels e) (named_place p) xs
   place_counts c e x xs (of_name y q) = (refl, refl)
+  place_counts c e x xs (of_part_place p) = place_counts c _ _ _ p
   place_counts c e x xs (of_temporary n p) = counts c _ _ _ p
 
   rest_counts : (c : Around) (outer : Bool) (s : Span) (ss : TypedStmts) (d : ℕ) (xs : List Line) (p : Rest c outer s ss d xs) → Counts (labels_of ss) (named_rest p) xs

@@ -4,13 +4,12 @@ use Rattle.std.proofs.lemmas.List.{drop_all}
 use Rattle.std.proofs.lemmas.Option.{slice_get_within}
 use Rattle.logic_term.specs.Ty.{Ty}
 use Rattle.type_check.specs.declared.typed.TypedStmt.{TypedStmt}
-use Rattle.type_check.specs.TypedExpr.{TypedExpr, TypedStmts, TypedExprs, integer, truth, variable, negative, denied, binary, lazy, assign, update, call, block, branch, choice, repeat, panics, returned, endless, until_break, break_off, go_on, done, last, leaving, bind, run, none, more}
+use Rattle.type_check.specs.TypedExpr.{TypedExpr, TypedStmts, TypedExprs, integer, truth, variable, negative, denied, binary, lazy, assign, update, call, make, part, block, branch, choice, repeat, panics, returned, endless, until_break, break_off, go_on, done, last, leaving, bind, run, none, more}
 use Rattle.type_check.specs.TypedExprView.{ty_of, stmt_of, stmts_of}
-use Rattle.type_check.specs.WellTyped.{Surroundings, within_loop, IsWellTyped, StatementsFit, ArgumentsFit}
+use Rattle.type_check.specs.WellTyped.{Surroundings, within_loop, IsWellTyped, StatementsFit, ArgumentsFit, PartsFit}
 use Rattle.mir_build.specs.Lowering.{Around, whole}
 use Rattle.mir_build.specs.Reach.{reach, reach_of, reach_in}
 use Rattle.mir_build.proofs.Bindings.{stmts_at}
-use Rattle.mir_build.proofs.Leaving.{leaving_value}
 use Rattle.mir_build.proofs.Statements.{around_behind}
 
 -- ---- what fits reaches no further than its scope
@@ -27,6 +26,8 @@ mutual
   within_scope σ Γ (assign ty s a e) w = omega (arith, within_scope σ Γ a w.2, within_scope σ Γ e w.3)
   within_scope σ Γ (update ty s op a e) w = omega (arith, within_scope σ Γ a w.3, within_scope σ Γ e w.4)
   within_scope σ Γ (call ty s f es) w = arguments_within σ Γ es w.0.params w.3
+  within_scope σ Γ (make ty s k es) w = parts_within σ Γ es w.1
+  within_scope σ Γ (part ty s e n) w = within_scope σ Γ e w.1
   within_scope σ Γ (block ty s ss) w = statements_within σ Γ ty ss w
   within_scope σ Γ (branch ty s e a) w = omega (arith, within_scope σ Γ e w.3, within_scope σ Γ a w.4)
   within_scope σ Γ (choice ty s e a b) w = omega (arith, within_scope σ Γ e w.3, within_scope σ Γ a w.4, within_scope σ Γ b w.5)
@@ -41,7 +42,7 @@ mutual
   statements_within : (σ : Surroundings) (Γ : List Ty) (ty : Ty) (ss : TypedStmts) → StatementsFit σ Γ ty ss → reach_of ss ≤ length Γ
   statements_within σ Γ ty done w = omega arith
   statements_within σ Γ ty (last e) w = within_scope σ Γ e w.1
-  statements_within σ Γ ty (leaving e) w = within_scope σ Γ e (leaving_value σ Γ ty e w)
+  statements_within σ Γ ty (leaving e) w = within_scope σ Γ e w.2
   statements_within σ Γ ty (bind e ss) w = omega (arith, within_scope σ Γ e w.0, statements_within σ (Γ ++ ty_of e ∷ []) ty ss w.1, length-append Γ (ty_of e ∷ []))
   statements_within σ Γ ty (run e ss) w = omega (arith, within_scope σ Γ e w.0, statements_within σ Γ ty ss w.1)
 
@@ -49,6 +50,10 @@ mutual
   arguments_within σ Γ none ts w = omega arith
   arguments_within σ Γ (more e es) [] w = absurd w
   arguments_within σ Γ (more e es) (t ∷ ts) w = omega (arith, within_scope σ Γ e w.1, arguments_within σ Γ es ts w.2)
+
+  parts_within : (σ : Surroundings) (Γ : List Ty) (es : TypedExprs) → PartsFit σ Γ es → reach_in es ≤ length Γ
+  parts_within σ Γ none w = omega arith
+  parts_within σ Γ (more e es) w = omega (arith, within_scope σ Γ e w.0, parts_within σ Γ es w.1)
 
 -- ---- parts of lists
 

@@ -13,7 +13,7 @@ use Rattle.type_check.specs.TypedExpr.{TypedExpr, TypedStmts, TypedExprs}
 use Rattle.mir_build.specs.declared.around.Loop.{Loop}
 use Rattle.mir_build.specs.Text.{Line, Puts, Makes, Leaves}
 use Rattle.mir_build.specs.Lowering.{Around, Formula, binds, looping, innermost, ends, dies_in, test, fork, calls, turning, spinning, circling, returning, lazily, Into, of_integer, of_truth, of_variable, of_negative, of_denied, of_binary, of_lazy, of_assign}
-use Rattle.mir_build.specs.Lowering.{of_update, of_call, of_block, of_branch, of_choice, of_leaving_choice, of_repeat, of_panics, of_returned, of_endless, of_until_break, of_break_off, of_go_on, Rest, of_done, of_last, of_leaving, of_bind, of_run, Args, of_none, of_more, PlaceOf, of_name, of_temporary, IntoBody, of_outermost, of_other}
+use Rattle.mir_build.specs.Lowering.{of_update, of_call, of_make, of_part, of_block, of_branch, of_choice, of_leaving_choice, of_repeat, of_panics, of_returned, of_endless, of_until_break, of_break_off, of_go_on, Rest, of_done, of_last, of_leaving, of_bind, of_run, Args, of_none, of_more, PlaceOf, of_name, of_part_place, of_temporary, IntoBody, of_outermost, of_other}
 use Rattle.mir_build.proofs.Jumps.{deaths, first_dies_last}
 
 -- the property holds of what a shape makes where it holds of its parts
@@ -75,6 +75,8 @@ module _ (P : Around → List Line → Type 0) (keeps : Keeps P) where
     of_text c e d xs (of_assign {xs = us} {ys = vs} p q) = made_then c _ _ us _ (of_text c _ _ us p) (keeps.join c vs _ (of_place c _ _ vs q) (two c _ _))
     of_text c e d xs (of_update u {xs = us} {ys = vs} p q) = made_then c _ _ us _ (of_text c _ _ us p) (keeps.join c vs _ (of_place c _ _ vs q) (keeps.make c u _ _ (three c _ _ _)))
     of_text c e d xs (of_call after {xs = us} p) = keeps.join c us _ (of_args c _ _ us p) (keeps.called c _ _ _ _ after)
+    of_text c e d xs (of_make {xs = us} p) = keeps.join c us _ (of_args c _ _ us p) (one c _)
+    of_text c e d xs (of_part {xs = us} p) = keeps.join c us _ (of_place c _ _ us p) (one c _)
     of_text c e d xs (of_block p) = of_rest c _ _ _ _ xs p
     of_text c e d xs (of_branch {s = s} {t = t} yes' no' after {xs = us} {ys = vs} p q) = made_then c _ _ us _ (of_text c _ _ us p) (keeps.tested c s t yes' no' after vs _ (of_text c _ _ vs q) (one c _))
     of_text c e d xs (of_choice {s = s} {t = t} yes' no' after {xs = us} {ys = vs} {zs = ws} n p q r) =
@@ -92,6 +94,7 @@ module _ (P : Around → List Line → Type 0) (keeps : Keeps P) where
 
     of_place : (c : Around) (e : TypedExpr) (x : Place) (xs : List Line) → PlaceOf c e x xs → P c xs
     of_place c e x xs (of_name x' q) = keeps.nothing c
+    of_place c e x xs (of_part_place p) = of_place c _ _ xs p
     of_place c e x xs (of_temporary {xs = us} n p) = keeps.make c _ _ us (of_text c _ _ us p)
 
     of_rest : (c : Around) (outer : Bool) (s : Span) (ss : TypedStmts) (d : ℕ) (xs : List Line) → Rest c outer s ss d xs → P c xs

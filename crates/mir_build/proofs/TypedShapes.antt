@@ -1,4 +1,4 @@
--- What the shapes keep holds of the text of each well-typed expression.
+-- What the shapes keep holds of the text of each plain expression that is well typed.
 use Rattle.std.proofs.Common.{◌≡◌, inl, inr, refl, sym, ◌∙◌, subst, true≢false, ℕ, ℤ, Bool, true, false, List, [], ◌∷◌, ◌++◌, map, length, Some, slice_get}
 use Rattle.text_core.specs.declared.refusal.Cause.{Cause}
 use Rattle.text_core.specs.declared.span.Span.{Span}
@@ -20,13 +20,15 @@ use Rattle.type_check.specs.declared.program.Signature.{Signature}
 use Rattle.type_check.specs.TypedExpr.{TypedExpr, TypedStmts, TypedExprs}
 use Rattle.type_check.specs.Leaves.{leaves, leaves_at_end}
 use Rattle.type_check.specs.TypedExprView.{ty_of}
-use Rattle.type_check.specs.WellTyped.{unit, operation_ty, is_signed, Surroundings, within_loop, IsBuilt, EachSpeaks, IsWellTyped, StatementsFit, ArgumentsFit}
+use Rattle.type_check.specs.Plain.{IsScalar}
+use Rattle.type_check.specs.WellTyped.{unit, operation_ty, is_signed, Surroundings, within_loop, EachSpeaks}
 use Rattle.mir_build.specs.declared.around.Loop.{Loop}
 use Rattle.mir_build.specs.Text.{Line, Leaves}
 use Rattle.mir_build.specs.Lowering.{Around, Formula, accepted, whole, binds, looping, innermost, puts, puts_at, put_unit, moved, ends, made_by, dies_in, die_from, test, fork, calls, turning, spinning, circling, returning, lazily}
-use Rattle.mir_build.specs.Lowering.{Into, of_integer, of_truth, of_variable, of_negative, of_denied, of_binary, of_lazy, of_assign, of_update, of_call, of_block, of_branch, of_choice, of_leaving_choice, of_repeat, of_panics, of_returned, of_endless, of_until_break, of_break_off, of_go_on}
-use Rattle.mir_build.specs.Lowering.{Rest, of_done, of_last, of_leaving, of_bind, of_run, Args, of_none, of_more, PlaceOf, of_name, of_temporary, IntoBody, of_outermost, of_other}
-use Rattle.mir_build.proofs.Leaving.{panics_built, leaving_value, leaving_leaves, leaving_built, Serves, itself, at_type, serves_built, last_serves, side_serves, sides_serve}
+use Rattle.mir_build.specs.Lowering.{Into, of_integer, of_truth, of_variable, of_negative, of_denied, of_binary, of_lazy, of_assign, of_update, of_call, of_make, of_part, of_block, of_branch, of_choice, of_leaving_choice, of_repeat, of_panics, of_returned, of_endless, of_until_break, of_break_off, of_go_on}
+use Rattle.mir_build.specs.Lowering.{Rest, of_done, of_last, of_leaving, of_bind, of_run, Args, of_none, of_more, PlaceOf, of_name, of_part_place, of_temporary, IntoBody, of_outermost, of_other}
+use Rattle.mir_build.proofs.Leaving.{panics_scalar, leaving_value, leaving_leaves, leaving_scalar, Serves, itself, at_type, serves_scalar, last_serves, side_serves, sides_serve}
+use Rattle.mir_build.proofs.PlainTyping.{IsPlainlyTyped, StatementsFitPlainly, ArgumentsFitPlainly}
 
 -- the temporaries that a value takes, the last one first, with their types, and its own type
 pub data Takes (c : Around) (Γ : List Ty) : List (ℕ × Ty) → Rvalue → Ty → Type 0 where
@@ -49,15 +51,15 @@ pub record KeepsTyped (σ : Surroundings) (Writes : Around → List Ty → List 
   pub left : (c : Around) (Γ : List Ty) (t : ℕ) (T : Ty) (d : ℕ) (U : Ty) (xs : List Line) → Writes c Γ [] d U xs → Writes c Γ ((t, T) ∷ []) d U xs
   -- one whose value never comes
   pub leaving : (c : Around) (Γ : List Ty) (t : ℕ) (T : Ty) (d : ℕ) (U : Ty) (xs : List Line) → Writes c Γ [] t T xs → Writes c Γ [] d U xs → Writes c Γ [] d U (made_by t T xs)
-  -- what panics serves for every built type
-  pub panicked : (c : Around) (Γ : List Ty) (s : Span) (k : Cause) (d : ℕ) (T : Ty) → IsBuilt T → Writes c Γ [] d T (Leaves (ends s (Panic k)) ∷ [])
+  -- what panics serves for every scalar type
+  pub panicked : (c : Around) (Γ : List Ty) (s : Span) (k : Cause) (d : ℕ) (T : Ty) → IsScalar T → Writes c Γ [] d T (Leaves (ends s (Panic k)) ∷ [])
   -- so does what returns, behind which the answer is in local 0, and a loop that is not left
-  pub returned : (c : Around) (Γ : List Ty) (s : Span) (xs : List Line) (d : ℕ) (T : Ty) → IsBuilt T → Writes c Γ [] 0 σ.answer xs → Writes c Γ [] d T (returning s xs)
-  pub circled : (c : Around) (Γ : List Ty) (s : Span) (head : Label) (fs : List Formula) (u : ℕ) (U : Ty) (ys : List Line) (d : ℕ) (T : Ty) → IsBuilt T → EachSpeaks (length Γ) (map accepted fs)
+  pub returned : (c : Around) (Γ : List Ty) (s : Span) (xs : List Line) (d : ℕ) (T : Ty) → IsScalar T → Writes c Γ [] 0 σ.answer xs → Writes c Γ [] d T (returning s xs)
+  pub circled : (c : Around) (Γ : List Ty) (s : Span) (head : Label) (fs : List Formula) (u : ℕ) (U : Ty) (ys : List Line) (d : ℕ) (T : Ty) → IsScalar T → EachSpeaks (length Γ) (map accepted fs)
       → Writes (looping c head head) Γ [] u U ys → Writes c Γ [] d T (circling c s head fs u U ys)
   -- and what leads to behind the innermost loop, or to its head
-  pub broken : (c : Around) (Γ : List Ty) (s : Span) (l : Loop) (d : ℕ) (T : Ty) → IsBuilt T → innermost c ≡ Some l → Writes c Γ [] d T (die_from s l.depth c.scope ++ Leaves (ends s (Goto l.after)) ∷ [])
-  pub gone_on : (c : Around) (Γ : List Ty) (s : Span) (l : Loop) (d : ℕ) (T : Ty) → IsBuilt T → innermost c ≡ Some l → Writes c Γ [] d T (die_from s l.depth c.scope ++ Leaves (ends s (Goto l.head)) ∷ [])
+  pub broken : (c : Around) (Γ : List Ty) (s : Span) (l : Loop) (d : ℕ) (T : Ty) → IsScalar T → innermost c ≡ Some l → Writes c Γ [] d T (die_from s l.depth c.scope ++ Leaves (ends s (Goto l.after)) ∷ [])
+  pub gone_on : (c : Around) (Γ : List Ty) (s : Span) (l : Loop) (d : ℕ) (T : Ty) → IsScalar T → innermost c ≡ Some l → Writes c Γ [] d T (die_from s l.depth c.scope ++ Leaves (ends s (Goto l.head)) ∷ [])
   pub spun : (c : Around) (Γ : List Ty) (s : Span) (head after : Label) (fs : List Formula) (u : ℕ) (U : Ty) (ys : List Line) (d : ℕ) (V : Ty) → V ≡ unit → EachSpeaks (length Γ) (map accepted fs)
       → Writes (looping c head after) Γ [] u U ys → Writes c Γ [] d V (spinning c s head after fs u U ys (put_unit s d ∷ []))
   pub bound : (outer : Bool) (c : Around) (Γ : List Ty) (s : Span) (t : ℕ) (T : Ty) (d : ℕ) (U : Ty) (xs : List Line) → Writes (binds c t) (Γ ++ T ∷ []) [] d U xs → Writes c Γ ((t, T) ∷ []) d U (xs ++ dies_in outer s t)
@@ -93,7 +95,7 @@ module _ (σ : Surroundings) (Writes : Around → List Ty → List (ℕ × Ty) �
   lazily_kept lazy_op.Or c Γ s t T d U yes' no' after xs q r p = keeps.tested c Γ s t T yes' no' after d U _ xs q (keeps.put c Γ [] s d _ U (of_bool r)) p
 
   mutual
-    of_typed : (i : Bool) (c : Around) (e : TypedExpr) (d : ℕ) (xs : List Line) → Into c e d xs → (Γ : List Ty) → IsWellTyped (within_loop i σ) Γ e → (d' : ℕ) (U : Ty) → Serves (leaves e) d (ty_of e) d' U → Writes c Γ [] d' U xs
+    of_typed : (i : Bool) (c : Around) (e : TypedExpr) (d : ℕ) (xs : List Line) → Into c e d xs → (Γ : List Ty) → IsPlainlyTyped (within_loop i σ) Γ e → (d' : ℕ) (U : Ty) → Serves (leaves e) d (ty_of e) d' U → Writes c Γ [] d' U xs
     of_typed i c e d xs of_integer Γ h d' U w = valued c Γ _ d _ d' U _ refl w (keeps.put c Γ [] _ d _ _ (of_number h))
     of_typed i c e d xs of_truth Γ h d' U w = valued c Γ _ d _ d' U _ refl w (keeps.put c Γ [] _ d _ _ (of_bool h))
     of_typed i c e d xs (of_variable {v = v} x q) Γ h d' U w = valued c Γ _ d _ d' U _ refl w (keeps.put c Γ [] _ d _ _ (of_copy v x q h))
@@ -110,6 +112,8 @@ module _ (σ : Surroundings) (Writes : Around → List Ty → List (ℕ × Ty) �
     of_typed i c e d xs (of_update {s = s} {op = op} {t = t} {p = x} u {xs = us} {ys = vs} p q) Γ h d' U w =
         valued c Γ _ d _ d' U _ refl w (keeps.made c Γ [] t _ us d _ _ (of_typed i c _ t us p Γ h.4 t _ itself) (keeps.updated c Γ s op t u _ x _ d _ vs h.2 h.1 h.0 (of_place i c _ x vs q Γ h.3)))
     of_typed i c e d xs (of_call {s = s} {f = f} {ts = ts} after {xs = us} p) Γ h d' U w = valued c Γ _ d _ d' U _ refl w (keeps.called c Γ s f h.0 ts after d _ us h.1 h.2 (of_args i c _ ts us p Γ h.0.params h.3))
+    of_typed i c e d xs (of_make p) Γ h d' U w = absurd h
+    of_typed i c e d xs (of_part p) Γ h d' U w = absurd h
     of_typed i c e d xs (of_block p) Γ h d' U w = of_rest i c _ _ _ d xs p Γ _ h d' U w
     of_typed i c e d xs (of_branch {s = s} {t = t} yes' no' after {xs = us} {ys = vs} p q) Γ h d' U w =
         valued c Γ _ d _ d' U _ refl w
@@ -124,38 +128,39 @@ module _ (σ : Surroundings) (Writes : Around → List Ty → List (ℕ × Ty) �
     of_typed i c e d xs (of_repeat {s = s} {t = t} {u = u} head body after fs {xs = us} {ys = vs} g p q) Γ h d' U w =
         valued c Γ _ d _ d' U _ refl w
         (keeps.turned c Γ s head body after fs t _ us u _ vs d _ h.2 h.0 (subst (EachSpeaks (length Γ)) g h.1) (of_typed false (looping c head after) _ t us p Γ h.4 t _ itself) (of_typed true (looping c head after) _ u vs q Γ h.5 u _ itself))
-    of_typed i c e d xs (of_panics {ty = T} {s = s} {k = k}) Γ h d' U w = keeps.panicked c Γ s k d' U (serves_built _ d T d' U (panics_built (within_loop i σ) Γ T s k h) w)
-    of_typed i c e d xs (of_returned {ty = T} {s = s} {e = a} {xs = us} p) Γ h d' U w = keeps.returned c Γ s us d' U (serves_built _ d T d' U h.0 w) (of_typed i c a 0 us p Γ h.2 0 _ (at_type h.1))
+    of_typed i c e d xs (of_panics {ty = T} {s = s} {k = k}) Γ h d' U w = keeps.panicked c Γ s k d' U (serves_scalar _ d T d' U (panics_scalar (within_loop i σ) Γ T s k h) w)
+    of_typed i c e d xs (of_returned {ty = T} {s = s} {e = a} {xs = us} p) Γ h d' U w = keeps.returned c Γ s us d' U (serves_scalar _ d T d' U h.0 w) (of_typed i c a 0 us p Γ h.2 0 _ (at_type h.1))
     of_typed i c e d xs (of_endless {ty = T} {s = s} {b = b} {u = u} head fs {ys = vs} g p) Γ h d' U w =
-        keeps.circled c Γ s head fs u _ vs d' U (serves_built _ d T d' U h.0 w) (subst (EachSpeaks (length Γ)) g h.2) (of_typed true (looping c head head) b u vs p Γ h.4 u _ itself)
+        keeps.circled c Γ s head fs u _ vs d' U (serves_scalar _ d T d' U h.0 w) (subst (EachSpeaks (length Γ)) g h.2) (of_typed true (looping c head head) b u vs p Γ h.4 u _ itself)
     of_typed i c e d xs (of_until_break {s = s} {b = b} {u = u} head after fs {ys = vs} g p) Γ h d' U w =
         valued c Γ _ d _ d' U _ refl w (keeps.spun c Γ s head after fs u _ vs d _ h.0 (subst (EachSpeaks (length Γ)) g h.2) (of_typed true (looping c head after) b u vs p Γ h.4 u _ itself))
-    of_typed i c e d xs (of_break_off {ty = T} {s = s} l q) Γ h d' U w = keeps.broken c Γ s l d' U (serves_built _ d T d' U h.0 w) q
-    of_typed i c e d xs (of_go_on {ty = T} {s = s} l q) Γ h d' U w = keeps.gone_on c Γ s l d' U (serves_built _ d T d' U h.0 w) q
+    of_typed i c e d xs (of_break_off {ty = T} {s = s} l q) Γ h d' U w = keeps.broken c Γ s l d' U (serves_scalar _ d T d' U h.0 w) q
+    of_typed i c e d xs (of_go_on {ty = T} {s = s} l q) Γ h d' U w = keeps.gone_on c Γ s l d' U (serves_scalar _ d T d' U h.0 w) q
 
-    of_rest : (i : Bool) (c : Around) (outer : Bool) (s : Span) (ss : TypedStmts) (d : ℕ) (xs : List Line) → Rest c outer s ss d xs → (Γ : List Ty) (T : Ty) → StatementsFit (within_loop i σ) Γ T ss → (d' : ℕ) (U : Ty) → Serves (leaves_at_end ss) d T d' U
+    of_rest : (i : Bool) (c : Around) (outer : Bool) (s : Span) (ss : TypedStmts) (d : ℕ) (xs : List Line) → Rest c outer s ss d xs → (Γ : List Ty) (T : Ty) → StatementsFitPlainly (within_loop i σ) Γ T ss → (d' : ℕ) (U : Ty) → Serves (leaves_at_end ss) d T d' U
         → Writes c Γ [] d' U xs
     of_rest i c outer s ss d xs of_done Γ T h d' U w = valued c Γ _ d T d' U _ refl w (unit_put c Γ s d T h)
     of_rest i c outer s ss d xs (of_last p) Γ T h d' U w = of_typed i c _ d xs p Γ h.1 d' U (last_serves _ d _ T d' U h.0 w)
     of_rest i c outer s ss d xs (of_leaving {e = e} {t = t} {xs = us} p) Γ T h d' U w =
         let g = leaving_value (within_loop i σ) Γ T e h in
-        let never = inr (leaving_leaves (within_loop i σ) Γ T e h, serves_built _ d T d' U (leaving_built (within_loop i σ) Γ T e h) w) in
+        let never = inr (leaving_leaves (within_loop i σ) Γ T e h, serves_scalar _ d T d' U (leaving_scalar (within_loop i σ) Γ T e h) w) in
         keeps.leaving c Γ t _ d' U us (of_typed i c e t us p Γ g t _ itself) (of_typed i c e t us p Γ g d' U never)
     of_rest i c outer s ss d xs (of_bind {t = t} {xs = us} {ys = vs} p q) Γ T h d' U w =
         keeps.made c Γ [] t _ us d' U _ (of_typed i c _ t us p Γ h.0 t _ itself) (keeps.bound outer c Γ s t _ d' U vs (of_rest i (binds c t) outer s _ d vs q _ T h.1 d' U w))
     of_rest i c outer s ss d xs (of_run {t = t} {xs = us} {ys = vs} p q) Γ T h d' U w =
         keeps.made c Γ [] t _ us d' U vs (of_typed i c _ t us p Γ h.0 t _ itself) (keeps.left c Γ t _ d' U vs (of_rest i c outer s _ d vs q Γ T h.1 d' U w))
 
-    of_args : (i : Bool) (c : Around) (es : TypedExprs) (ts : List ℕ) (xs : List Line) → Args c es ts xs → (Γ Ts : List Ty) → ArgumentsFit (within_loop i σ) Γ es Ts → Passes c Γ ts Ts xs
+    of_args : (i : Bool) (c : Around) (es : TypedExprs) (ts : List ℕ) (xs : List Line) → Args c es ts xs → (Γ Ts : List Ty) → ArgumentsFitPlainly (within_loop i σ) Γ es Ts → Passes c Γ ts Ts xs
     of_args i c es ts xs of_none Γ [] h = keeps.no_arguments c Γ
     of_args i c es ts xs of_none Γ (T ∷ Ts) h = absurd h
     of_args i c es ts xs (of_more p q) Γ [] h = absurd h
     of_args i c es ts xs (of_more {t = t} {ts = us'} {xs = us} {ys = vs} p q) Γ (T ∷ Ts) h = keeps.argument c Γ t T _ us us' Ts vs h.0 (of_typed i c _ t us p Γ h.1 t _ itself) (of_args i c _ us' vs q Γ Ts h.2)
 
-    of_place : (i : Bool) (c : Around) (e : TypedExpr) (x : Place) (xs : List Line) → PlaceOf c e x xs → (Γ : List Ty) → IsWellTyped (within_loop i σ) Γ e → Names c Γ x (ty_of e) xs
+    of_place : (i : Bool) (c : Around) (e : TypedExpr) (x : Place) (xs : List Line) → PlaceOf c e x xs → (Γ : List Ty) → IsPlainlyTyped (within_loop i σ) Γ e → Names c Γ x (ty_of e) xs
     of_place i c e x xs (of_name {v = v} y q) Γ h = keeps.named c Γ v y _ q h
+    of_place i c e x xs (of_part_place p) Γ h = absurd h
     of_place i c e x xs (of_temporary {t = t} {xs = us} n p) Γ h = keeps.temporary c Γ t _ us (of_typed i c e t us p Γ h t _ itself)
 
-  pub of_typed_body : (i : Bool) (c : Around) (e : TypedExpr) (xs : List Line) → IntoBody c e xs → (Γ : List Ty) → IsWellTyped (within_loop i σ) Γ e → Writes c Γ [] 0 (ty_of e) xs
+  pub of_typed_body : (i : Bool) (c : Around) (e : TypedExpr) (xs : List Line) → IntoBody c e xs → (Γ : List Ty) → IsPlainlyTyped (within_loop i σ) Γ e → Writes c Γ [] 0 (ty_of e) xs
   of_typed_body i c e xs (of_outermost p) Γ h = of_rest i c true _ _ 0 xs p Γ _ h 0 _ itself
   of_typed_body i c e xs (of_other q p) Γ h = of_typed i c e 0 xs p Γ h 0 _ itself

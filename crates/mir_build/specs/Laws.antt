@@ -1,5 +1,5 @@
--- What is true of each program that lowers: it lowers in one way, and where it fits, the conditions hold under which true obligations
--- make its bodies good.
+-- What is true of each program that lowers: it lowers in one way, and where it fits and is plain, the conditions hold under which true
+-- obligations make its bodies good.
 use Rattle.std.specs.Prelude.{◌≡◌, ℕ, ◌≤◌, false, List, length, drop, Some, slice_get, []}
 use Rattle.std.specs.List.{All}
 use Rattle.text_core.specs.declared.name.Name.{Name}
@@ -20,7 +20,8 @@ use Rattle.mir_ir.specs.WellFormed.{AreSound, Labelling, MeetsMoveRows}
 use Rattle.type_check.specs.declared.program.TypedFunction.{TypedFunction}
 use Rattle.type_check.specs.declared.program.TypedProgram.{TypedProgram}
 use Rattle.type_check.specs.VariableNames.{variable_name, answer_name}
-use Rattle.type_check.specs.WellTyped.{IsBuilt, EachFits, signatures}
+use Rattle.type_check.specs.Plain.{IsScalar, EachIsPlain}
+use Rattle.type_check.specs.WellTyped.{EachFits, signatures}
 use Rattle.mir_build.specs.Lowering.{LowerTo, HasMoreBlocks}
 use Rattle.mir_ir.specs.declared.body.Bodies.{Bodies}
 use Rattle.mir_ir.specs.Names.{LocalsAreNamed, ContractSpeaks, HeadsSpeak}
@@ -52,12 +53,13 @@ abbrev pub BlocksAreCounted : Type 0
 BlocksAreCounted = (table : List (List ℕ)) (ds : List AdtDecl) (p : TypedProgram) (bs : Bodies) (cs : Contracts) (gones : List Initialised) (bound : ℕ)
     → LowerTo table ds p.functions bs cs gones → All (λ (b : Body). length b.blocks ≤ bound) bs.bodies → HasMoreBlocks p bound → ⊥
 
--- ---- the laws of programs that fit
+-- ---- the laws of plain programs that fit
 
--- each function lowers to a body, a contract and gone places, and the functions fit
+-- each function lowers to a body, a contract and gone places, and the functions fit and are plain
 pub record Lowers (table : List (List ℕ)) (ds : List AdtDecl) (fs : List TypedFunction) (bs : Bodies) (cs : Contracts) (gones : List Initialised) : Type 0 where
   pub lowers : LowerTo table ds fs bs cs gones
   pub fits : EachFits (signatures fs) fs
+  pub plain : EachIsPlain fs
 
 abbrev pub BodiesAreSound : Type 0
 BodiesAreSound = (table : List (List ℕ)) (ds : List AdtDecl) (fs : List TypedFunction) (bs : Bodies) (cs : Contracts) (gones : List Initialised) → Lowers table ds fs bs cs gones → AreSound bs
@@ -69,7 +71,7 @@ abbrev pub LocalsHaveNames : Type 0
 LocalsHaveNames = (table : List (List ℕ)) (ds : List AdtDecl) (fs : List TypedFunction) (bs : Bodies) (cs : Contracts) (gones : List Initialised) → Lowers table ds fs bs cs gones → (n : ℕ) (b : Body) → slice_get bs.bodies n ≡ Some b → LocalsAreNamed b × LocalsAreNoVariables b
 
 abbrev pub LocalsHaveBuiltTypes : Type 0
-LocalsHaveBuiltTypes = (table : List (List ℕ)) (ds : List AdtDecl) (fs : List TypedFunction) (bs : Bodies) (cs : Contracts) (gones : List Initialised) → Lowers table ds fs bs cs gones → (n : ℕ) (b : Body) → slice_get bs.bodies n ≡ Some b → (x : ℕ) (t : Ty) → slice_get b.locals x ≡ Some t → IsBuilt t
+LocalsHaveBuiltTypes = (table : List (List ℕ)) (ds : List AdtDecl) (fs : List TypedFunction) (bs : Bodies) (cs : Contracts) (gones : List Initialised) → Lowers table ds fs bs cs gones → (n : ℕ) (b : Body) → slice_get bs.bodies n ≡ Some b → (x : ℕ) (t : Ty) → slice_get b.locals x ≡ Some t → IsScalar t
 
 -- there are labellings that meet the rows of moves and by which heads speak of what is there
 abbrev pub HeadsSpeakOfWhatIsThere : Type 0

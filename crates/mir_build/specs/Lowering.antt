@@ -10,6 +10,7 @@ use Rattle.text_core.specs.declared.span.Span.{Span}
 use Rattle.text_core.specs.Names.{text_of}
 use Rattle.source_kinds.specs.declared.kinds.BinaryOp.{BinaryOp}
 use Rattle.logic_term.specs.declared.declaration.AdtDecl.{AdtDecl}
+use Rattle.logic_term.specs.declared.kinds.Ctor.{Ctor}
 use Rattle.logic_term.specs.declared.kinds.Ctor.TheVariants.{Tuple}
 use Rattle.source_kinds.specs.declared.kinds.IntKind.{IntKind}
 use Rattle.logic_term.specs.declared.kinds.Label.{Label}
@@ -27,6 +28,7 @@ use Rattle.mir_ir.specs.declared.place.Lit.TheVariants as lit
 use Rattle.mir_ir.specs.declared.place.Operand.{Operand}
 use Rattle.mir_ir.specs.declared.place.Operand.TheVariants.{Copy, Move, Const}
 use Rattle.mir_ir.specs.declared.place.Place.{Place}
+use Rattle.mir_ir.specs.declared.place.Proj.TheVariants.{Field}
 use Rattle.mir_ir.specs.declared.statement.Rvalue.{Rvalue}
 use Rattle.mir_ir.specs.declared.statement.Rvalue.TheVariants.{Use, Binary, Neg, Not, Make}
 use Rattle.mir_ir.specs.declared.statement.StatementKind.TheVariants.{Assign, Dead}
@@ -50,7 +52,7 @@ use Rattle.type_check.specs.declared.program.TypedFunction.{TypedFunction}
 use Rattle.type_check.specs.declared.program.TypedProgram.{TypedProgram}
 use Rattle.mir_build.specs.declared.around.Loop.{Loop}
 use Rattle.mir_build.specs.declared.lowered.Lowered.{Lowered}
-use Rattle.type_check.specs.TypedExpr.{TypedExpr, TypedStmts, TypedExprs, integer, variable, negative, denied, binary, lazy, assign, update, call, block, branch, choice, repeat, panics, returned, endless, until_break, break_off, go_on, done, last, leaving, bind, run, none, more}
+use Rattle.type_check.specs.TypedExpr.{TypedExpr, TypedStmts, TypedExprs, integer, variable, negative, denied, binary, lazy, assign, update, call, make, part, block, branch, choice, repeat, panics, returned, endless, until_break, break_off, go_on, done, last, leaving, bind, run, none, more}
 use Rattle.type_check.specs.Leaves.{leaves}
 use Rattle.type_check.specs.TypedExpr as typed
 use Rattle.type_check.specs.TypedExprView.{ty_of, span_of}
@@ -63,6 +65,10 @@ use Rattle.mir_ir.specs.declared.body.Bodies.{Bodies}
 
 abbrev pub whole : ℕ → Place
 whole x = record { local = x; path = [] }
+
+-- part n of what is at the place
+abbrev pub part_place : Place → ℕ → Place
+part_place p n = record { local = p.local; path = p.path ++ Field n ∷ [] }
 
 -- the place of each variable in scope, and the loops around, both the outermost first. A loop has its head, the block behind it, and
 -- how many variables are in scope around it
@@ -111,7 +117,7 @@ formula_span f = f.span
 abbrev pub accepted : Formula → Assertion
 accepted f = Good f.span f.term
 
--- what a place holds, as a term. So far places are whole locals
+-- what a place holds, as a term. So far the places of variables are whole locals
 abbrev pub held : Place → Term
 held p = var (local_name p.local)
 
@@ -144,9 +150,6 @@ constant s d v = puts s d (Use (Const v))
 -- d = ()
 abbrev pub put_unit : Span → ℕ → Line
 put_unit s d = puts s d (Make Tuple [])
-
-abbrev pub copied : ℕ → Operand
-copied x = Copy (whole x)
 
 abbrev pub moved : ℕ → Operand
 moved x = Move (whole x)
@@ -219,9 +222,10 @@ lazily lazy_op.Or c s t d yes' no' after ys = test c s t yes' no' after (constan
 
 -- ---- rows
 
--- the expression names a place; so far a variable does
+-- the expression names a place: a variable does, and a part
 abbrev pub is_place : TypedExpr → Bool
 is_place (variable ty s v) = true
+is_place (part ty s e n) = true
 is_place _ = false
 
 mutual
@@ -241,6 +245,9 @@ mutual
     of_update : {c : Around} {ty : Ty} {s : Span} {op : BinaryOp} {a e : TypedExpr} {d t : ℕ} {p : Place} (u : ℕ) {xs ys : List Line} → Into c e t xs → PlaceOf c a p ys
         → Into c (update ty s op a e) d (made_by t (ty_of e) xs ++ (ys ++ (made_by u (ty_of e) (puts s u (Binary op (Copy p) (moved t)) ∷ []) ++ puts_at s p (Use (moved u)) ∷ put_unit s d ∷ [])))
     of_call : {c : Around} {ty : Ty} {s : Span} {f : ℕ} {es : TypedExprs} {d : ℕ} {ts : List ℕ} (after : Label) {xs : List Line} → Args c es ts xs → Into c (call ty s f es) d (xs ++ calls c s f d ts after ∷ [])
+    of_make : {c : Around} {ty : Ty} {s : Span} {k : Ctor} {es : TypedExprs} {d : ℕ} {ts : List ℕ} {xs : List Line} → Args c es ts xs → Into c (make ty s k es) d (xs ++ puts s d (Make k (map moved ts)) ∷ [])
+    -- of a type that is copied; so far each built type is
+    of_part : {c : Around} {ty : Ty} {s : Span} {e : TypedExpr} {n d : ℕ} {p : Place} {xs : List Line} → PlaceOf c (part ty s e n) p xs → Into c (part ty s e n) d (xs ++ puts s d (Use (Copy p)) ∷ [])
     of_block : {c : Around} {ty : Ty} {s : Span} {ss : TypedStmts} {d : ℕ} {xs : List Line} → Rest c false s ss d xs → Into c (block ty s ss) d xs
     of_branch : {c : Around} {ty : Ty} {s : Span} {e a : TypedExpr} {d t : ℕ} (yes' no' after : Label) {xs ys : List Line} → Into c e t xs → Into c a d ys
         → Into c (branch ty s e a) d (made_by t (ty_of e) xs ++ test c s t yes' no' after ys (put_unit s d ∷ []))
@@ -262,9 +269,10 @@ mutual
     of_break_off : {c : Around} {ty : Ty} {s : Span} {d : ℕ} (l : Loop) → innermost c ≡ Some l → Into c (break_off ty s) d (die_from s l.depth c.scope ++ Leaves (ends s (Goto l.after)) ∷ [])
     of_go_on : {c : Around} {ty : Ty} {s : Span} {d : ℕ} (l : Loop) → innermost c ≡ Some l → Into c (go_on ty s) d (die_from s l.depth c.scope ++ Leaves (ends s (Goto l.head)) ∷ [])
 
-  -- what an assignment writes, with the text before it: the place of a variable, or a temporary that holds the value, which is lost
+  -- the place of an expression, with the text before it: that of a variable, a part of another place, or a temporary that holds the value
   pub data PlaceOf : Around → TypedExpr → Place → List Line → Type 0 where
     of_name : {c : Around} {ty : Ty} {s : Span} {v : ℕ} (p : Place) → slice_get c.scope v ≡ Some p → PlaceOf c (variable ty s v) p []
+    of_part_place : {c : Around} {ty : Ty} {s : Span} {e : TypedExpr} {n : ℕ} {p : Place} {xs : List Line} → PlaceOf c e p xs → PlaceOf c (part ty s e n) (part_place p n) xs
     of_temporary : {c : Around} {e : TypedExpr} {t : ℕ} {xs : List Line} → is_place e ≡ false → Into c e t xs → PlaceOf c e (whole t) (made_by t (ty_of e) xs)
 
   -- the text of a block's statements and of its last expression; whether it is the outermost block of a body
@@ -277,7 +285,7 @@ mutual
         → Rest c outer s (bind e ss) d (made_by t (ty_of e) xs ++ (ys ++ dies_in outer s t))
     of_run : {c : Around} {outer : Bool} {s : Span} {e : TypedExpr} {ss : TypedStmts} {d t : ℕ} {xs ys : List Line} → Into c e t xs → Rest c outer s ss d ys → Rest c outer s (run e ss) d (made_by t (ty_of e) xs ++ ys)
 
-  -- the text that writes each argument to a temporary
+  -- the text that writes each of the expressions to a temporary
   pub data Args : Around → TypedExprs → List ℕ → List Line → Type 0 where
     of_none : {c : Around} → Args c none [] []
     of_more : {c : Around} {e : TypedExpr} {es : TypedExprs} {t : ℕ} {ts : List ℕ} {xs ys : List Line} → Into c e t xs → Args c es ts ys → Args c (more e es) (t ∷ ts) (made_by t (ty_of e) xs ++ ys)
@@ -307,6 +315,8 @@ abbrev mutual
   named (of_assign p q) = named p ++ named_place q
   named (of_update u p q) = named p ++ named_place q
   named (of_call after p) = named_args p ++ after.0 ∷ []
+  named (of_make p) = named_args p
+  named (of_part p) = named_place p
   named (of_block p) = named_rest p
   named (of_branch yes' no' after p q) = named p ++ yes'.0 ∷ no'.0 ∷ after.0 ∷ named q
   named (of_choice yes' no' after n p q r) = named p ++ yes'.0 ∷ no'.0 ∷ after.0 ∷ (named q ++ named r)
@@ -321,6 +331,7 @@ abbrev mutual
 
   pub named_place : {c : Around} {e : TypedExpr} {x : Place} {xs : List Line} → PlaceOf c e x xs → List ℕ
   named_place (of_name x q) = []
+  named_place (of_part_place p) = named_place p
   named_place (of_temporary n p) = named p
 
   pub named_rest : {c : Around} {outer : Bool} {s : Span} {ss : TypedStmts} {d : ℕ} {xs : List Line} → Rest c outer s ss d xs → List ℕ

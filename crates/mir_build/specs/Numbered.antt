@@ -9,18 +9,18 @@ use Rattle.logic_term.specs.Ty.{Ty}
 use Rattle.mir_ir.specs.declared.place.Lit.TheVariants as lit
 use Rattle.mir_ir.specs.declared.place.Operand.TheVariants.{Copy}
 use Rattle.mir_ir.specs.declared.place.Place.{Place}
-use Rattle.mir_ir.specs.declared.statement.Rvalue.TheVariants.{Use, Binary, Neg, Not}
+use Rattle.mir_ir.specs.declared.statement.Rvalue.TheVariants.{Use, Binary, Neg, Not, Make}
 use Rattle.mir_ir.specs.declared.terminator.FnId.TheVariants as fn_id
 use Rattle.mir_ir.specs.declared.terminator.Callee.TheVariants.{Function}
 use Rattle.mir_ir.specs.declared.terminator.TerminatorKind.TheVariants.{Goto, If, Call, Return, Panic}
 use Rattle.type_check.specs.declared.assertion.Assertion.{Assertion}
 use Rattle.type_check.specs.declared.assertion.Assertion.TheVariants.{Good, Bad}
-use Rattle.type_check.specs.TypedExpr.{TypedExpr, TypedStmts, TypedExprs, integer, truth, variable, negative, denied, binary, lazy, assign, update, call, block, branch, choice, repeat, panics, returned, endless, until_break, break_off, go_on, done, last, leaving, bind, run, none, more}
+use Rattle.type_check.specs.TypedExpr.{TypedExpr, TypedStmts, TypedExprs, integer, truth, variable, negative, denied, binary, lazy, assign, update, call, make, part, block, branch, choice, repeat, panics, returned, endless, until_break, break_off, go_on, done, last, leaving, bind, run, none, more}
 use Rattle.type_check.specs.Leaves.{leaves}
 use Rattle.type_check.specs.TypedExprView.{ty_of}
 use Rattle.mir_build.specs.declared.around.Loop.{Loop}
 use Rattle.mir_build.specs.Text.{Line, Makes, Turns, Leaves, Owns}
-use Rattle.mir_build.specs.Lowering.{Around, Formula, binds, looping, at, at_head, head_of, whole, puts, puts_at, constant, put_unit, moved, ends, dies_in, die_from, lazily, test, fork, is_place}
+use Rattle.mir_build.specs.Lowering.{Around, Formula, binds, looping, at, at_head, head_of, whole, part_place, puts, puts_at, constant, put_unit, moved, ends, dies_in, die_from, lazily, test, fork, is_place}
 
 abbrev pub label : ℕ → Label
 label l = record { 0 = l }
@@ -50,22 +50,23 @@ loop_at ls = get_or ls (length ls - 1) no_loop
 abbrev pub jump : Span → ℕ → Label → List Place → List Line
 jump s depth to scope = die_from s depth scope ++ Leaves (ends s (Goto to)) ∷ []
 
--- ---- what an assignment writes
+-- ---- places
 
--- the place that is written, where t is the temporary of what names no place
+-- the place of an expression, where t is the temporary of what names no place
 abbrev pub place_of : List Place → ℕ → TypedExpr → Place
 place_of scope t (variable ty s v) = variable_place scope v
+place_of scope t (part ty s e n) = part_place (place_of scope t e) n
 place_of scope t _ = whole t
 
--- how many temporaries there are: none for what names a place
+-- how many temporaries stand for the expression itself: none for what names a place
 abbrev pub temporary_count : Bool → ℕ
 temporary_count true = 0
 temporary_count false = 1
 
--- the temporary, which the text writes
-abbrev pub temporary_text : Bool → ℕ → Ty → List Line → List Line
-temporary_text true t ty xs = []
-temporary_text false t ty xs = Makes t ty ∷ xs
+-- the text before what names a place, or the temporary, which another text writes
+abbrev pub place_text : Bool → ℕ → Ty → List Line → List Line → List Line
+place_text true t ty before xs = before
+place_text false t ty before xs = Makes t ty ∷ xs
 
 -- ---- `if` with `else`
 
@@ -93,6 +94,8 @@ abbrev mutual
   labels (assign ty s a e) = labels e + labels a
   labels (update ty s op a e) = labels e + labels a
   labels (call ty s f es) = labels_in es + 1
+  labels (make ty s k es) = labels_in es
+  labels (part ty s e n) = labels e
   labels (block ty s ss) = labels_of ss
   labels (branch ty s e a) = labels e + 3 + labels a
   labels (choice ty s e a b) = labels e + choice_labels (leaves a && leaves b) + labels a + labels b
@@ -129,6 +132,8 @@ abbrev mutual
   locals (assign ty s a e) = 1 + locals e + temporary_count (is_place a) + locals a
   locals (update ty s op a e) = 1 + locals e + temporary_count (is_place a) + locals a + 1
   locals (call ty s f es) = locals_in es
+  locals (make ty s k es) = locals_in es
+  locals (part ty s e n) = temporary_count (is_place e) + locals e
   locals (block ty s ss) = locals_of ss
   locals (branch ty s e a) = 1 + locals e + locals a
   locals (choice ty s e a b) = 1 + locals e + locals a + locals b
@@ -151,7 +156,7 @@ abbrev mutual
   locals_in none = 0
   locals_in (more e es) = 1 + locals e + locals_in es
 
--- the temporaries of arguments
+-- the temporaries of expressions in a row
 abbrev pub temporaries : TypedExprs → ℕ → List ℕ
 temporaries none t = []
 temporaries (more e es) t = t ∷ temporaries es (t + 1 + locals e)
@@ -174,16 +179,18 @@ abbrev mutual
       Makes t (ty_of a) ∷ (into a c l (t + 1) t ++ lazily op c s t d (label m) (label (m + 1)) (label (m + 2)) ys)
   into (assign ty s a e) c l t d =
       let u = t + 1 + locals e in
-      Makes t (ty_of e) ∷ (into e c l (t + 1) t ++ (temporary_text (is_place a) u (ty_of a) (into a c (l + labels e) (u + 1) u) ++ puts_at s (place_of c.scope u a) (Use (moved t)) ∷ put_unit s d ∷ []))
+      Makes t (ty_of e) ∷ (into e c l (t + 1) t ++ (place_text (is_place a) u (ty_of a) (place_before a c (l + labels e) u) (into a c (l + labels e) (u + 1) u) ++ puts_at s (place_of c.scope u a) (Use (moved t)) ∷ put_unit s d ∷ []))
   into (update ty s op a e) c l t d =
       let u = t + 1 + locals e in
       let w = u + temporary_count (is_place a) + locals a in
       let p = place_of c.scope u a in
-      Makes t (ty_of e) ∷ (into e c l (t + 1) t ++ (temporary_text (is_place a) u (ty_of a) (into a c (l + labels e) (u + 1) u)
+      Makes t (ty_of e) ∷ (into e c l (t + 1) t ++ (place_text (is_place a) u (ty_of a) (place_before a c (l + labels e) u) (into a c (l + labels e) (u + 1) u)
       ++ Makes w (ty_of e) ∷ puts s w (Binary op (Copy p) (moved t)) ∷ puts_at s p (Use (moved w)) ∷ put_unit s d ∷ []))
   into (call ty s f es) c l t d =
       let m = l + labels_in es in
       args es c l t ++ Turns (ends s (Call (whole d) (Function (fn_id.Body f)) [] (map moved (temporaries es t)) (label m))) (at c (label m)) ∷ []
+  into (make ty s k es) c l t d = args es c l t ++ puts s d (Make k (map moved (temporaries es t))) ∷ []
+  into (part ty s e n) c l t d = place_text (is_place e) t (ty_of e) (place_before e c l t) (into e c l (t + 1) t) ++ puts s d (Use (Copy (part_place (place_of c.scope t e) n))) ∷ []
   into (block ty s ss) c l t d = rest ss false s c l t d
   into (branch ty s e a) c l t d =
       let m = l + labels e in
@@ -213,6 +220,11 @@ abbrev mutual
   into (break_off ty s) c l t d = jump s (loop_at c.loops).depth (loop_at c.loops).after c.scope
   into (go_on ty s) c l t d = jump s (loop_at c.loops).depth (loop_at c.loops).head c.scope
 
+  -- the text before what names a place: none for a variable, and for a part that before what it is a part of
+  pub place_before : TypedExpr → Around → ℕ → ℕ → List Line
+  place_before (part ty s e n) c l t = place_text (is_place e) t (ty_of e) (place_before e c l t) (into e c l (t + 1) t)
+  place_before _ c l t = []
+
   pub rest : TypedStmts → Bool → Span → Around → ℕ → ℕ → ℕ → List Line
   rest done outer s c l t d = put_unit s d ∷ []
   rest (last e) outer s c l t d = into e c l t d
@@ -223,6 +235,10 @@ abbrev mutual
   pub args : TypedExprs → Around → ℕ → ℕ → List Line
   args none c l t = []
   args (more e es) c l t = Makes t (ty_of e) ∷ (into e c l (t + 1) t ++ args es c (l + labels e) (t + 1 + locals e))
+
+-- the text before the place of an expression
+abbrev pub text_before : TypedExpr → Around → ℕ → ℕ → List Line
+text_before e c l t = place_text (is_place e) t (ty_of e) (place_before e c l t) (into e c l (t + 1) t)
 
 -- the text of `if` with `else`, by whether both sides leave
 abbrev pub if_text : Bool → TypedExpr → TypedExpr → TypedExpr → Span → ℕ → Around → ℕ → ℕ → List Line

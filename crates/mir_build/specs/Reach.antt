@@ -1,6 +1,6 @@
 -- How many variables have to be in scope around an expression, so that each that it names is there. Contracts of the code alone speak of it.
 use Rattle.std.specs.Prelude.{ℕ, ◌+◌, ◌-◌, max}
-use Rattle.type_check.specs.TypedExpr.{TypedExpr, TypedStmts, TypedExprs, integer, truth, variable, negative, denied, binary, lazy, assign, update, call, block, branch, choice, repeat, panics, returned, endless, until_break, break_off, go_on, done, last, leaving, bind, run, none, more}
+use Rattle.type_check.specs.TypedExpr.{TypedExpr, TypedStmts, TypedExprs, integer, truth, variable, negative, denied, binary, lazy, assign, update, call, make, part, block, branch, choice, repeat, panics, returned, endless, until_break, break_off, go_on, done, last, leaving, bind, run, none, more}
 
 abbrev mutual
   pub reach : TypedExpr → ℕ
@@ -14,6 +14,8 @@ abbrev mutual
   reach (assign ty s a e) = max (reach a) (reach e)
   reach (update ty s op a e) = max (reach a) (reach e)
   reach (call ty s f es) = reach_in es
+  reach (make ty s k es) = reach_in es
+  reach (part ty s e n) = reach e
   reach (block ty s ss) = reach_of ss
   reach (branch ty s e a) = max (reach e) (reach a)
   reach (choice ty s e a b) = max (reach e) (max (reach a) (reach b))

@@ -1,36 +1,60 @@
 -- A walk down the left operands of an expression, with a stack of what is to be done: the text that is still to be written, with the
 -- numbers that the code gives. Contracts of the code alone speak of it.
-use Rattle.std.specs.Prelude.{ℕ, suc, ◌+◌, ◌*◌, max, List, [], ◌∷◌, ◌++◌, reverse, Option, None}
+use Rattle.std.specs.Prelude.{ℕ, suc, ◌+◌, ◌*◌, max, Bool, true, false, List, [], ◌∷◌, ◌++◌, reverse, Option, None}
 use Rattle.text_core.specs.declared.refusal.SourceError.{SourceError}
 use Rattle.text_core.specs.declared.span.Span.{Span}
 use Rattle.source_kinds.specs.declared.kinds.LazyOp.{LazyOp}
+use Rattle.mir_ir.specs.declared.place.Operand.TheVariants.{Copy}
+use Rattle.mir_ir.specs.declared.place.Place.{Place}
 use Rattle.mir_ir.specs.declared.statement.Rvalue.TheVariants.{Use, Binary}
 use Rattle.type_check.specs.Answers.{or_else}
 use Rattle.type_check.specs.FirstBad.{bad_in}
-use Rattle.type_check.specs.TypedExpr.{TypedExpr}
+use Rattle.type_check.specs.TypedExpr.{TypedExpr, variable, part}
 use Rattle.type_check.specs.TypedExprView.{ty_of, typed_size}
 use Rattle.mir_build.specs.declared.task.Behind.{Behind}
 use Rattle.mir_build.specs.declared.task.Behind.TheVariants as behind
 use Rattle.mir_build.specs.declared.task.Task.{Task}
 use Rattle.mir_build.specs.declared.task.Task.TheVariants.{Lower, Finish}
 use Rattle.mir_build.specs.Text.{Line, Makes}
-use Rattle.mir_build.specs.Lowering.{Around, puts, put_unit, copied, moved, lazily}
-use Rattle.mir_build.specs.Numbered.{label, labels, locals, into}
+use Rattle.mir_build.specs.Lowering.{Around, part_place, puts, puts_at, put_unit, moved, lazily}
+use Rattle.mir_build.specs.Numbered.{label, place_of, labels, locals, into}
 use Rattle.mir_build.specs.Reach.{reach}
+
+-- ---- the roots of places
+
+-- what parts are parts of; the expression itself where it is no part
+abbrev pub root : TypedExpr → TypedExpr
+root (part ty s e n) = root e
+root e = e
+
+abbrev pub is_part : TypedExpr → Bool
+is_part (part ty s e n) = true
+is_part _ = false
+
+abbrev pub is_variable : TypedExpr → Bool
+is_variable (variable ty s v) = true
+is_variable _ = false
+
+-- the part of this number of the part of the next number, and so on, of what is at the place
+abbrev pub parts_of_place : Place → List ℕ → Place
+parts_of_place p [] = p
+parts_of_place p (n ∷ ns) = part_place (parts_of_place p ns) n
 
 -- ---- behind a left operand, which is in local t
 
 abbrev pub behind_labels : Behind → ℕ
 behind_labels (behind.Binary op b) = labels b.now
 behind_labels (behind.Lazy op b) = 3 + labels b.now
-behind_labels (behind.Assign v) = 0
-behind_labels (behind.Update op ty v) = 0
+behind_labels (behind.Assign a v) = 0
+behind_labels (behind.Update op a ty v) = 0
+behind_labels (behind.Part e) = 0
 
 abbrev pub behind_locals : Behind → ℕ
 behind_locals (behind.Binary op b) = 1 + locals b.now
 behind_locals (behind.Lazy op b) = locals b.now
-behind_locals (behind.Assign v) = 0
-behind_locals (behind.Update op ty v) = 1
+behind_locals (behind.Assign a v) = 0
+behind_locals (behind.Update op a ty v) = 1
+behind_locals (behind.Part e) = 0
 
 -- the text of `&&` or `||`
 abbrev pub lazy_text : LazyOp → TypedExpr → Span → ℕ → ℕ → Around → ℕ → ℕ → List Line
@@ -39,27 +63,33 @@ lazy_text op b s t d c l u = lazily op c s t d (label l) (label (l + 1)) (label 
 abbrev pub behind_text : Behind → Span → ℕ → ℕ → Around → ℕ → ℕ → List Line
 behind_text (behind.Binary op b) s t d c l u = Makes u (ty_of b.now) ∷ (into b.now c l (u + 1) u ++ puts s d (Binary op (moved t) (moved u)) ∷ [])
 behind_text (behind.Lazy op b) s t d c l u = lazy_text op b.now s t d c l u
-behind_text (behind.Assign v) s t d c l u = puts s t (Use (moved v)) ∷ put_unit s d ∷ []
-behind_text (behind.Update op ty v) s t d c l u = Makes u ty.now ∷ puts s u (Binary op (copied t) (moved v)) ∷ puts s t (Use (moved u)) ∷ put_unit s d ∷ []
+behind_text (behind.Assign a v) s t d c l u = puts_at s (place_of c.scope t a.now) (Use (moved v)) ∷ put_unit s d ∷ []
+behind_text (behind.Update op a ty v) s t d c l u =
+    let p = place_of c.scope t a.now in
+    Makes u ty.now ∷ puts s u (Binary op (Copy p) (moved v)) ∷ puts_at s p (Use (moved u)) ∷ put_unit s d ∷ []
+behind_text (behind.Part e) s t d c l u = puts s d (Use (Copy (place_of c.scope t e.now))) ∷ []
 
 abbrev pub behind_size : Behind → ℕ
 behind_size (behind.Binary op b) = typed_size b.now
 behind_size (behind.Lazy op b) = typed_size b.now
-behind_size (behind.Assign v) = 0
-behind_size (behind.Update op ty v) = 0
+behind_size (behind.Assign a v) = 0
+behind_size (behind.Update op a ty v) = 0
+behind_size (behind.Part e) = 0
 
 abbrev pub behind_reach : Behind → ℕ
 behind_reach (behind.Binary op b) = reach b.now
 behind_reach (behind.Lazy op b) = reach b.now
-behind_reach (behind.Assign v) = 0
-behind_reach (behind.Update op ty v) = 0
+behind_reach (behind.Assign a v) = reach a.now
+behind_reach (behind.Update op a ty v) = reach a.now
+behind_reach (behind.Part e) = reach e.now
 
 -- the first formula that is refused
 abbrev pub behind_bad : Behind → Option SourceError
 behind_bad (behind.Binary op b) = bad_in b.now
 behind_bad (behind.Lazy op b) = bad_in b.now
-behind_bad (behind.Assign v) = None
-behind_bad (behind.Update op ty v) = None
+behind_bad (behind.Assign a v) = None
+behind_bad (behind.Update op a ty v) = None
+behind_bad (behind.Part e) = None
 
 -- ---- tasks
 

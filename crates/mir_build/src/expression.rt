@@ -1,51 +1,38 @@
 //! Lowering of expressions: what they add to the text of their body.
-ghost use Rattle.std.specs.Prelude.{true, false, None, ◌&&◌, ◌≡◌, ◌+◌, ◌^◌, ◌≤◌, ◌<◌, ◌*◌, max, ◌∷◌, ◌++◌, [], length, take, drop, map, OnOk, IfOk, IfErr};
+ghost use Rattle.std.specs.Prelude.{true, false, None, ◌&&◌, ◌≡◌, ◌+◌, ◌^◌, ◌≤◌, ◌<◌, ◌*◌, max, ◌∷◌, ◌++◌, [], length, map, OnOk, IfOk, IfErr};
 ghost use Rattle.type_check.specs.Answers.{or_else};
 ghost use Rattle.type_check.specs.FirstBad.{bad_among, bad_in, bad_in_exprs, bad_in_stmts};
 ghost use Rattle.type_check.specs.Leaves.{leaves};
-ghost use Rattle.type_check.specs.TypedExpr.{assign, update, branch, choice, repeat, call};
-ghost use Rattle.type_check.specs.TypedExprView.{ty_of, span_of, stmts_of, exprs_of, typed_size};
+ghost use Rattle.type_check.specs.TypedExpr.{negative, denied, assign, update, branch, choice, repeat, call, make};
+ghost use Rattle.type_check.specs.TypedExprView.{ty_of, stmts_of, exprs_of, typed_size};
 ghost use Rattle.type_check.specs.WellTyped.{unit};
 ghost use Rattle.mir_ir.specs.declared.terminator.TerminatorKind.TheVariants.{Return};
 ghost use Rattle.mir_build.specs.Text.{Makes, Leaves};
-ghost use Rattle.mir_build.specs.Lowering.{moved, ends, dies_in};
+ghost use Rattle.mir_build.specs.Lowering.{moved, ends};
 ghost use Rattle.mir_build.specs.Numbered.{into, rest, if_text, args, loop_text, endless_text, broken_text, temporaries, labels, labels_of, labels_in, locals, locals_of, locals_in};
 ghost use Rattle.mir_build.specs.Reach.{reach, reach_of, reach_in};
 ghost use Rattle.mir_build.specs.Built.{written, around, end_of};
-ghost use Rattle.mir_build.specs.Bindings.{all_die};
 ghost use Rattle.mir_build.specs.Tasks.{to_do, lazy_text, behind_labels, behind_locals, behind_reach, behind_bad, task_text, task_labels, task_locals, task_size, task_reach, task_bad, task_weight};
 ghost use Rattle.mir_build.specs.Tasks.{tasks_text, tasks_labels, tasks_locals, tasks_size, tasks_reach, tasks_bad, tasks_weight};
-ghost use Rattle.mir_build.specs.declared.task.Task.TheVariants.{Lower, Finish};
+ghost use Rattle.mir_build.specs.declared.task.Task.TheVariants.{Finish};
 ghost use Rattle.mir_build.specs.declared.stop.Stop.TheVariants.{Blocks};
 
-use crate::around::{Around, variable_place};
-use crate::assignment::{is_place, lower_place, put_assign, put_update};
+use crate::around::Around;
+use crate::assignment::{is_variable, lower_place, put_assign, put_update, root_of};
+use crate::binding::end_bindings;
 use crate::block_end::BlockEnd;
 use crate::builder::{Builder, moved, whole};
 use crate::jump::{lower_break, lower_continue};
 use crate::looping::{end_loop, enter_loop, leave_loop};
+use crate::operand::{copy_place, push_left, type_of};
 use crate::stop::Stop;
 use crate::task::{Behind, Pending, Task};
-use logic_term::{Label, Ty};
-use mir_ir::{Callee, FnId, Lit, Operand, Place, Rvalue, TerminatorKind};
+use logic_term::{Ctor, Label};
+use mir_ir::{Callee, FnId, Lit, Operand, Rvalue, TerminatorKind};
 use source_kinds::{BinaryOp, LazyOp};
 use std::alloc::Global;
-use text_core::{Items, NoMemory, Span};
+use text_core::{Items, Span};
 use type_check::{Assertion, TypedExpr, TypedNode, TypedStmt, leaves};
-
-#[tactic(auto, using(crate::proofs::Parts::ty_of_node))]
-pub(crate) fn type_of(e: &TypedExpr) -> &Ty
-    ensures { result.now ≡ ty_of e.now }
-{
-    &e.ty
-}
-
-#[tactic(auto, using(crate::proofs::Parts::span_of_node))]
-pub(crate) fn value_span(e: &TypedExpr) -> Span
-    ensures { result ≡ span_of e.now }
-{
-    e.span
-}
 
 /// A new local that holds the value.
 #[cycle(lower)]
@@ -125,34 +112,6 @@ fn do_task<'a>(
     }
 }
 
-/// The left operand is next, which goes to a new local, and then the rest of the expression, which goes to local `target`.
-#[tactic(auto, using(crate::proofs::Runs::running, crate::proofs::TaskStack::pushed))]
-fn push_left<'a>(
-    alloc: Global,
-    b: &mut Builder,
-    span: Span,
-    left: &'a TypedExpr,
-    target: u32,
-    behind: Behind<'a>,
-    tasks: &mut Vec<Task<'a>>,
-) -> Result<(), Stop>
-    ensures text { OnOk result (b.new.text ≡ written (Makes (length b.old.text.locals) (ty_of left.entry.now) ∷ []) b.old.text) }
-    ensures labels { OnOk result (b.new.labels ≡ b.old.labels) }
-    ensures locals { OnOk result (length b.new.text.locals ≡ length b.old.text.locals + 1) }
-    ensures limit { IfErr result (λ stop. stop ≡ Blocks → ⊥) }
-    ensures tasks { OnOk result (to_do tasks.new.items ≡ Lower left.entry (length b.old.text.locals) ∷ Finish (record { span = span; operand = length b.old.text.locals; target = target; behind = behind.entry }) ∷ to_do tasks.old.items) }
-{
-    let operand = b.make(alloc, type_of(left))?;
-    tasks.push(Task::Finish(Pending {
-        span,
-        operand,
-        target,
-        behind,
-    }))?;
-    tasks.push(Task::Lower(left, operand))?;
-    Ok(())
-}
-
 /// Lowers the expression, or what of it comes before its left operand, and pushes the rest.
 #[cycle(lower)]
 #[tactic(auto, using(crate::proofs::Runs::running))]
@@ -190,19 +149,11 @@ fn lower_left<'a>(
         TypedNode::Update(op, to, x) => lower_update(alloc, b, c, span, *op, to, x, d, tasks),
         TypedNode::Int(z, k) => Ok(b.put_constant(alloc, span, d, Lit::Int(*z, *k))?),
         TypedNode::Truth(v) => Ok(b.put_constant(alloc, span, d, Lit::Bool(*v))?),
-        TypedNode::Variable(v) => {
-            let place = variable_place(alloc, c.scope.as_slice(), *v)?;
-            Ok(b.put(alloc, span, d, Rvalue::Use(Operand::Copy(place)))?)
-        }
-        TypedNode::Neg(x) => {
-            let t = lower_new(alloc, b, c, x)?;
-            Ok(b.put(alloc, span, d, Rvalue::Neg(moved(alloc, t)))?)
-        }
-        TypedNode::Not(x) => {
-            let t = lower_new(alloc, b, c, x)?;
-            Ok(b.put(alloc, span, d, Rvalue::Not(moved(alloc, t)))?)
-        }
+        TypedNode::Variable(_) | TypedNode::Part(_, _) => copy_place(alloc, b, c, e, d, tasks),
+        TypedNode::Neg(x) => lower_neg(alloc, b, c, span, x, d),
+        TypedNode::Not(x) => lower_not(alloc, b, c, span, x, d),
         TypedNode::Call(f, es) => lower_call(alloc, b, c, span, *f, es, d),
+        TypedNode::Make(k, es) => lower_make(alloc, b, c, span, *k, es, d),
         TypedNode::Block(ss) => lower_rest(alloc, b, c, false, span, ss, BlockEnd::Unit, d),
         TypedNode::BlockWith(ss, last) => {
             lower_rest(alloc, b, c, false, span, ss, BlockEnd::Value(last), d)
@@ -249,14 +200,72 @@ fn lower_behind(
             Ok(b.put(alloc, span, d, value)?)
         }
         Behind::Lazy(op, right) => lower_lazy(alloc, b, c, span, op, x, right, d),
-        Behind::Assign(value) => Ok(put_assign(alloc, b, span, whole(alloc, x), value, d)?),
-        Behind::Update(op, ty, value) => {
-            put_update(alloc, b, span, op, whole(alloc, x), ty, value, d)
+        Behind::Assign(to, value) => {
+            let place = lower_place(alloc, c.scope.as_slice(), to, x)?;
+            Ok(put_assign(alloc, b, span, place, value, d)?)
+        }
+        Behind::Update(op, to, ty, value) => {
+            let place = lower_place(alloc, c.scope.as_slice(), to, x)?;
+            put_update(alloc, b, span, op, place, ty, value, d)
+        }
+        Behind::Part(e) => {
+            let place = lower_place(alloc, c.scope.as_slice(), e, x)?;
+            Ok(b.put(alloc, span, d, Rvalue::Use(Operand::Copy(place)))?)
         }
     }
 }
 
-/// `to = value`: the value first. What names no place goes to a temporary.
+/// `-x`.
+#[cycle(lower)]
+#[tactic(auto, using(crate::proofs::Runs::running))]
+fn lower_neg(
+    alloc: Global,
+    b: &mut Builder,
+    c: &mut Around,
+    span: Span,
+    x: &TypedExpr,
+    d: u32,
+) -> Result<(), Stop>
+    requires scope { reach x.now ≤ length c.old.scope.items }
+    requires good { bad_in x.now ≡ None }
+    ensures text { OnOk result (b.new.text ≡ written (into (negative unit span x.now) (around c.old) b.old.labels (length b.old.text.locals) d) b.old.text) }
+    ensures labels { OnOk result (b.new.labels ≡ b.old.labels + labels x.now) }
+    ensures locals { OnOk result (length b.new.text.locals ≡ length b.old.text.locals + 1 + locals x.now) }
+    ensures limit { IfErr result (λ stop. stop ≡ Blocks → 4096 < b.old.labels + labels x.now) }
+    ensures most { OnOk result (b.old.labels ≤ 4096 → b.new.labels ≤ 4096) }
+    ensures around { OnOk result (around c.new ≡ around c.old) }
+    ensures count { OnOk result (length c.new.scope.items ≡ length c.old.scope.items) }
+{
+    let t = lower_new(alloc, b, c, x)?;
+    Ok(b.put(alloc, span, d, Rvalue::Neg(moved(alloc, t)))?)
+}
+
+/// `!x`.
+#[cycle(lower)]
+#[tactic(auto, using(crate::proofs::Runs::running))]
+fn lower_not(
+    alloc: Global,
+    b: &mut Builder,
+    c: &mut Around,
+    span: Span,
+    x: &TypedExpr,
+    d: u32,
+) -> Result<(), Stop>
+    requires scope { reach x.now ≤ length c.old.scope.items }
+    requires good { bad_in x.now ≡ None }
+    ensures text { OnOk result (b.new.text ≡ written (into (denied unit span x.now) (around c.old) b.old.labels (length b.old.text.locals) d) b.old.text) }
+    ensures labels { OnOk result (b.new.labels ≡ b.old.labels + labels x.now) }
+    ensures locals { OnOk result (length b.new.text.locals ≡ length b.old.text.locals + 1 + locals x.now) }
+    ensures limit { IfErr result (λ stop. stop ≡ Blocks → 4096 < b.old.labels + labels x.now) }
+    ensures most { OnOk result (b.old.labels ≤ 4096 → b.new.labels ≤ 4096) }
+    ensures around { OnOk result (around c.new ≡ around c.old) }
+    ensures count { OnOk result (length c.new.scope.items ≡ length c.old.scope.items) }
+{
+    let t = lower_new(alloc, b, c, x)?;
+    Ok(b.put(alloc, span, d, Rvalue::Not(moved(alloc, t)))?)
+}
+
+/// `to = value`: the value first. What names no place, at the root of parts too, goes to a temporary.
 #[cycle(lower)]
 #[tactic(auto, using(crate::proofs::Runs::running, crate::proofs::Targets::targets))]
 fn lower_assign<'a>(
@@ -286,10 +295,11 @@ fn lower_assign<'a>(
     ensures weight { OnOk result (tasks_weight (to_do tasks.new.items) < 2 * typed_size (assign unit span to.entry.now x.now) + tasks_weight (to_do tasks.old.items)) }
 {
     let value = lower_new(alloc, b, c, x)?;
-    if !is_place(to) {
-        return push_left(alloc, b, span, to, d, Behind::Assign(value), tasks);
+    let root = root_of(to);
+    if !is_variable(root) {
+        return push_left(alloc, b, span, root, d, Behind::Assign(to, value), tasks);
     }
-    let place = lower_place(alloc, c.scope.as_slice(), to)?;
+    let place = lower_place(alloc, c.scope.as_slice(), to, 0)?;
     Ok(put_assign(alloc, b, span, place, value, d)?)
 }
 
@@ -324,11 +334,12 @@ fn lower_update<'a>(
     ensures weight { OnOk result (tasks_weight (to_do tasks.new.items) < 2 * typed_size (update unit span op to.entry.now x.now) + tasks_weight (to_do tasks.old.items)) }
 {
     let value = lower_new(alloc, b, c, x)?;
-    if !is_place(to) {
-        let behind = Behind::Update(op, type_of(x), value);
-        return push_left(alloc, b, span, to, d, behind, tasks);
+    let root = root_of(to);
+    if !is_variable(root) {
+        let behind = Behind::Update(op, to, type_of(x), value);
+        return push_left(alloc, b, span, root, d, behind, tasks);
     }
-    let place = lower_place(alloc, c.scope.as_slice(), to)?;
+    let place = lower_place(alloc, c.scope.as_slice(), to, 0)?;
     put_update(alloc, b, span, op, place, type_of(x), value, d)
 }
 
@@ -689,7 +700,33 @@ fn lower_call(
     Ok(())
 }
 
-/// The values of the arguments, each in a local of its own.
+/// A value that is made of parts.
+#[cycle(lower)]
+#[tactic(auto, using(crate::proofs::Runs::running))]
+fn lower_make(
+    alloc: Global,
+    b: &mut Builder,
+    c: &mut Around,
+    span: Span,
+    k: Ctor,
+    es: &[TypedExpr],
+    d: u32,
+) -> Result<(), Stop>
+    requires scope { reach_in (exprs_of es.now) ≤ length c.old.scope.items }
+    requires good { bad_in_exprs (exprs_of es.now) ≡ None }
+    ensures text { OnOk result (b.new.text ≡ written (into (make unit span k (exprs_of es.now)) (around c.old) b.old.labels (length b.old.text.locals) d) b.old.text) }
+    ensures labels { OnOk result (b.new.labels ≡ b.old.labels + labels_in (exprs_of es.now)) }
+    ensures locals { OnOk result (length b.new.text.locals ≡ length b.old.text.locals + locals_in (exprs_of es.now)) }
+    ensures limit { IfErr result (λ stop. stop ≡ Blocks → 4096 < b.old.labels + labels_in (exprs_of es.now)) }
+    ensures most { OnOk result (b.old.labels ≤ 4096 → b.new.labels ≤ 4096) }
+    ensures around { OnOk result (around c.new ≡ around c.old) }
+    ensures count { OnOk result (length c.new.scope.items ≡ length c.old.scope.items) }
+{
+    let operands = lower_args(alloc, b, c, es)?;
+    Ok(b.put(alloc, span, d, Rvalue::Make(k, operands))?)
+}
+
+/// The values of the arguments, or parts, each in a local of its own.
 #[cycle(lower)]
 #[tactic(auto, using(crate::proofs::Runs::running, crate::proofs::Good::each_good))]
 fn lower_args(
@@ -756,41 +793,4 @@ pub(crate) fn lower_rest(
     }
     end_bindings(b, c, outer, span, before)?;
     Ok(())
-}
-
-/// Ends the bindings of a block around which so many variables are in scope, the last one first. Those of the outermost block of a body
-/// only go out of scope.
-#[tactic(auto, using(crate::proofs::Runs::running))]
-fn end_bindings(
-    b: &mut Builder,
-    c: &mut Around,
-    outer: bool,
-    span: Span,
-    before: usize,
-) -> Result<(), NoMemory>
-    ensures text { OnOk result (b.new.text ≡ written (all_die outer span (drop before c.old.scope.items)) b.old.text) }
-    ensures labels { OnOk result (b.new.labels ≡ b.old.labels) }
-    ensures locals { OnOk result (length b.new.text.locals ≡ length b.old.text.locals) }
-    ensures scope { OnOk result (c.new.scope.items ≡ take before c.old.scope.items) }
-    ensures loops { OnOk result (c.new.loops ≡ c.old.loops) }
-{
-    while c.scope.len() > before {
-        let Some(place) = c.scope.pop() else {
-            return Ok(());
-        };
-        end_binding(b, outer, span, place.local)?;
-    }
-    Ok(())
-}
-
-/// The binding of the local ends, but not one of the outermost block of a body.
-fn end_binding(b: &mut Builder, outer: bool, span: Span, local: u32) -> Result<(), NoMemory>
-    ensures text { OnOk result (b.new.text ≡ written (dies_in outer span local) b.old.text) }
-    ensures labels { OnOk result (b.new.labels ≡ b.old.labels) }
-    ensures locals { OnOk result (length b.new.text.locals ≡ length b.old.text.locals) }
-{
-    if outer {
-        return Ok(());
-    }
-    b.kill(span, local)
 }

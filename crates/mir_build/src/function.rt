@@ -14,7 +14,8 @@ ghost use Rattle.mir_build.specs.declared.stop.Stop.TheVariants.{Blocks};
 use crate::around::{Around, local_name};
 use crate::block_end::BlockEnd;
 use crate::builder::{BodyText, Builder, MOST_BLOCKS, whole};
-use crate::expression::{lower_into, lower_rest, value_span};
+use crate::expression::{lower_into, lower_rest};
+use crate::operand::value_span;
 use crate::stop::Stop;
 use logic_term::{Label, Ty};
 use mir_ir::{

@@ -1,4 +1,4 @@
-//! What is true of each program that lowers, and of each one that fits too.
+//! What is true of each program that lowers, and of each one that fits and is plain too.
 ghost use Rattle.mir_build.specs.Laws.{BlocksAreCounted, BodiesAreLaidOut, BodiesAreSound, ContractsSpeakOfParameters, HeadsSpeakOfWhatIsThere, LocalsHaveBuiltTypes, LocalsHaveNames, ProgramsLowerInOneWay};
 
 /// Two lowerings of a program have the same bodies, contracts and gone places.
@@ -17,7 +17,7 @@ pub fn lowered_bodies_are_sound()
 {}
 
 /// Each end of a block leads on, out of loops or into one at its head, or back to the head of a loop around it. No two locals
-/// have one name, and all are of built types.
+/// have one name, and all are of scalar types.
 pub fn lowered_bodies_are_laid_out()
     ensures laid_out { BodiesAreLaidOut }
     ensures named { LocalsHaveNames }

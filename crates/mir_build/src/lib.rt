@@ -3,6 +3,7 @@
 
 mod around;
 mod assignment;
+mod binding;
 mod block_end;
 mod builder;
 mod contract;
@@ -12,6 +13,7 @@ mod jump;
 mod laws;
 mod looping;
 mod lowered;
+mod operand;
 mod program;
 mod stop;
 mod task;

@@ -11,10 +11,12 @@ pub(crate) enum Behind<'a> {
     /// The right operand.
     Binary(BinaryOp, &'a TypedExpr),
     Lazy(LazyOp, &'a TypedExpr),
-    /// The local of the value that is assigned. The left operand names no place: its value is lost.
-    Assign(u32),
+    /// What is assigned to, at whose root the left operand is, and the local of the value.
+    Assign(&'a TypedExpr, u32),
     /// The same, and the type of the value.
-    Update(BinaryOp, &'a Ty, u32),
+    Update(BinaryOp, &'a TypedExpr, &'a Ty, u32),
+    /// A part, at whose root the left operand is.
+    Part(&'a TypedExpr),
 }
 
 /// An expression whose left operand is lowered before the rest of it.

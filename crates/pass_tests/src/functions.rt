@@ -33,7 +33,7 @@ const OUTSIDE_THE_GRAMMAR: [Row; 5] = [
     (b"fn \xff", Code::E01, 3, 3),
 ];
 
-const NOT_BUILT: [Row; 55] = [
+const NOT_BUILT: [Row; 57] = [
     (b"fn f() { () }", Code::E20, 9, 10),
     (b"fn f() { (a.b, 2) }", Code::E20, 9, 10),
     (b"fn f() { (a.b) }", Code::E20, 10, 11),
@@ -59,11 +59,18 @@ const NOT_BUILT: [Row; 55] = [
     (b"fn f<T>(x: i8) {}", Code::E20, 4, 5),
     (b"fn f() {} #[allow(a)] pub trait T {}", Code::E20, 26, 31),
     (
-        b"#[requires(forall<x: Int> x == x)] fn f() {}",
+        b"#[requires(exists<x: Int> x == x)] fn f() {}",
         Code::E20,
         11,
         17,
     ),
+    (
+        b"#[requires(forall<x: Int, y: S<Int>> true)] fn f() {}",
+        Code::E20,
+        29,
+        30,
+    ),
+    (b"fn f() { let x: Int = 5; }", Code::E20, 16, 19),
     (b"#[requires(true)] struct S;", Code::E20, 0, 1),
     (
         b"#[requires(forall<x: Int> x == x)] struct S;",
@@ -132,7 +139,7 @@ const NOT_BUILT: [Row; 55] = [
 ];
 
 /// All forms are built.
-const BUILT: [(&'static [u8], usize); 3] = [
+const BUILT: [(&'static [u8], usize); 4] = [
     (
         b"#![allow(x)] use std::vec::Vec; #[doc(\"x\")] #[requires(true)] pub(crate) fn f() { #[inline] #[invariant(true)] while true {} }",
         1,
@@ -140,6 +147,10 @@ const BUILT: [(&'static [u8], usize); 3] = [
     (
         b"fn f(x: i64) -> i64 { let mut a: i64 = 1; a += if x < 2 && !false { -x } else { g(a, (2)) }; a } fn g(a: i64, b: i64) -> i64 { a * b }",
         2,
+    ),
+    (
+        b"#[requires(forall<k: Int, b: bool> b ==> k < x@)] fn f(x: i8) { #[invariant(forall<k: u8> k == k)] while true {} }",
+        1,
     ),
     (
         b"#[requires(x@ > 0 ==> x@ < 3)] #[ensures(result@ == 4 || !(x@ == 1))] fn f(x: i8) -> i8 { #[invariant(x@ >= 0)] while x > 0 { x; } 4 }",

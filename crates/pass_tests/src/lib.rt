@@ -12,6 +12,8 @@ mod lowering;
 #[cfg(test)]
 mod printed;
 #[cfg(test)]
+mod tuple_bodies;
+#[cfg(test)]
 mod typing;
 #[cfg(test)]
 mod verdicts;

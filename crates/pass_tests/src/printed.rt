@@ -1,29 +1,100 @@
-//! Bodies as words, without their operands: what a body is lowered to is compared as one text.
+//! Bodies as words, without most of their operands: what a body is lowered to is compared as one text.
 //! The first line has the owner, and how many parameters and locals there are. Each further line is a block: its label, the heads of the
-//! loops around it, and the invariants of a head, each with its span; then its statements with the locals that they write, and its end
-//! with the labels that it leads to, each with its first byte.
+//! loops around it, and the invariants of a head, each with its span; then its statements with the places that they write, and its end
+//! with the labels that it leads to, each with its first byte. What a value is made of stands behind `of`, and so does a part that is copied.
 use logic_term::{Label, Term, TermForm};
-use mir_ir::{Block, Body, Head, Rvalue, Statement, StatementKind, Terminator, TerminatorKind};
+use mir_ir::{
+    Block, Body, Head, Operand, Place, Proj, Rvalue, Statement, StatementKind, Terminator,
+    TerminatorKind,
+};
 use std::alloc::AllocError;
 use text_core::Span;
 
-/// What a statement is, and the local that it writes.
-fn statement_words(kind: &StatementKind) -> (&'static str, u32) {
+fn push_part(out: &mut String, part: &Proj) -> Result<(), AllocError> {
+    match part {
+        Proj::Field(number) => write!(out, ".{number}"),
+        Proj::Variant(number) => write!(out, ".variant {number}"),
+        Proj::Deref => out.push_str(".deref"),
+    }
+}
+
+/// The local, and the numbers of the parts of parts.
+fn push_place(out: &mut String, place: &Place) -> Result<(), AllocError> {
+    let local = place.local;
+    write!(out, "{local}")?;
+    for part in place.path.as_slice() {
+        push_part(out, part)?;
+    }
+    Ok(())
+}
+
+/// What the right side of an assignment is.
+fn value_word(value: &Rvalue) -> &'static str {
+    match value {
+        Rvalue::Use(_) => "use",
+        Rvalue::Binary(_, _, _) => "binary",
+        Rvalue::Make(_, _) => "make",
+        Rvalue::Neg(_) => "negate",
+        Rvalue::Not(_) => "not",
+    }
+}
+
+fn push_operand(out: &mut String, operand: &Operand) -> Result<(), AllocError> {
+    match operand {
+        Operand::Copy(place) | Operand::Move(place) => {
+            out.push(' ')?;
+            push_place(out, place)
+        }
+        Operand::Const(_) => out.push_str(" constant"),
+    }
+}
+
+/// A part that is copied.
+fn push_copied(out: &mut String, operand: &Operand) -> Result<(), AllocError> {
+    match operand {
+        Operand::Copy(place) if !place.path.is_empty() => {
+            out.push_str(" of")?;
+            push_operand(out, operand)
+        }
+        _ => Ok(()),
+    }
+}
+
+/// What a value is made of, and a part that is copied first.
+fn push_operands(out: &mut String, value: &Rvalue) -> Result<(), AllocError> {
+    match value {
+        Rvalue::Use(operand) | Rvalue::Binary(_, operand, _) => push_copied(out, operand),
+        Rvalue::Make(_, operands) => {
+            if !operands.is_empty() {
+                out.push_str(" of")?;
+            }
+            for operand in operands.as_slice() {
+                push_operand(out, operand)?;
+            }
+            Ok(())
+        }
+        _ => Ok(()),
+    }
+}
+
+/// What a statement is, and the place that it writes.
+fn push_statement(out: &mut String, kind: &StatementKind) -> Result<(), AllocError> {
     match kind {
-        StatementKind::Assign(place, Rvalue::Use(_)) => ("use", place.local),
-        StatementKind::Assign(place, Rvalue::Binary(_, _, _)) => ("binary", place.local),
-        StatementKind::Assign(place, Rvalue::Make(_, _)) => ("make", place.local),
-        StatementKind::Assign(place, Rvalue::Neg(_)) => ("negate", place.local),
-        StatementKind::Assign(place, Rvalue::Not(_)) => ("not", place.local),
-        StatementKind::Dead(local) => ("dead", *local),
+        StatementKind::Assign(place, value) => {
+            let word = value_word(value);
+            write!(out, " {word} ")?;
+            push_place(out, place)?;
+            push_operands(out, value)
+        }
+        StatementKind::Dead(local) => write!(out, " dead {local}"),
     }
 }
 
 fn push_statements(out: &mut String, statements: &[Statement]) -> Result<(), AllocError> {
     for statement in statements {
-        let (word, local) = statement_words(&statement.kind);
+        push_statement(out, &statement.kind)?;
         let start = statement.span.start;
-        write!(out, " {word} {local} @{start},")?;
+        write!(out, " @{start},")?;
     }
     Ok(())
 }

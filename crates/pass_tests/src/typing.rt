@@ -509,15 +509,14 @@ fn formulas_come_behind_all_bodies(rt: HostRuntime) {
     expect(&rt, rt.alloc(), &FORMULAS_COME_BEHIND_ALL_BODIES);
 }
 
-const FORMS_THAT_HAVE_NO_TYPE_YET: [Row; 13] = [
+const FORMS_THAT_HAVE_NO_TYPE_YET: [Row; 12] = [
     (b"fn f(x: i32) { &x; }", Some((Code::E20, 15, 17))),
     (b"fn f() { let _ = 1; }", Some((Code::E20, 13, 14))),
     (
-        b"fn f() { let x: (i32, bool) = y; }",
-        Some((Code::E20, 16, 27)),
+        b"fn f() { let x: (i32, &bool) = y; }",
+        Some((Code::E20, 22, 27)),
     ),
     (b"fn f(x: &i32) {}", Some((Code::E20, 8, 12))),
-    (b"fn f() -> () {}", Some((Code::E20, 10, 12))),
     (b"fn f<T>() {}", Some((Code::E20, 4, 7))),
     (b"trait T {}", Some((Code::E20, 0, 10))),
     (
@@ -538,4 +537,79 @@ const FORMS_THAT_HAVE_NO_TYPE_YET: [Row; 13] = [
 #[test]
 fn forms_that_have_no_type_yet(rt: HostRuntime) {
     expect(&rt, rt.alloc(), &FORMS_THAT_HAVE_NO_TYPE_YET);
+}
+
+const QUANTIFIED_TERMS: [Row; 18] = [
+    (
+        b"#[ensures(forall<k: Int> k <= result@ ==> k <= x@)] fn f(x: i32) -> i32 { x }",
+        None,
+    ),
+    (
+        b"fn f(n: u8) { #[invariant(forall<k: u8, b: bool> b ==> k == n)] while true {} }",
+        None,
+    ),
+    (
+        b"#[requires(forall<x: bool, y: u8> (forall<x: Int> x < y@) || x)] fn f(x: i32) {}",
+        None,
+    ),
+    (
+        b"#[requires((forall<x: bool> x) ==> x)] fn f(x: i32) {}",
+        Some((Code::E07, 35, 36)),
+    ),
+    (
+        b"#[requires(forall<k: Int> forall<k: bool> k)] fn f() {}",
+        None,
+    ),
+    (
+        b"#[requires(forall<k: Int, k: bool> k)] fn f() {}",
+        Some((Code::E06, 26, 27)),
+    ),
+    (
+        b"#[requires((forall<k: Int> k == 0) && k == 0)] fn f() {}",
+        Some((Code::E05, 38, 39)),
+    ),
+    (
+        b"#[requires(forall<k: Int> k + 1)] fn f() {}",
+        Some((Code::E07, 26, 31)),
+    ),
+    (
+        b"#[requires(forall<k: Int> k < x)] fn f(x: i32) {}",
+        Some((Code::E07, 30, 31)),
+    ),
+    (
+        b"#[requires(1 + (forall<k: Int> true) == 2)] fn f() {}",
+        Some((Code::E07, 16, 35)),
+    ),
+    (
+        b"struct S; #[requires(forall<k: Int, s: S> k)] fn f() {}",
+        Some((Code::E20, 39, 40)),
+    ),
+    (
+        b"#[requires(forall<p: (Int, bool)> true)] fn f() {}",
+        Some((Code::E20, 21, 32)),
+    ),
+    (
+        b"#[requires(forall<p: Box<Int>> true)] fn f() {}",
+        Some((Code::E20, 21, 29)),
+    ),
+    (
+        b"#[requires(exists<k: Int> k == 0)] fn f() {}",
+        Some((Code::E20, 11, 32)),
+    ),
+    (b"#[requires(forall<> true)] fn f() {}", None),
+    (
+        b"#[ensures((forall<result: bool> result) || result@ == 0)] fn f() -> i32 { 0 }",
+        None,
+    ),
+    (
+        b"#[requires((forall<result: bool> result) || result@ == 0)] fn f(result: i32) {}",
+        None,
+    ),
+    (b"fn f(x: Int) {}", Some((Code::E05, 8, 11))),
+];
+
+/// What `forall` binds hides other variables, and the answer, in its body alone.
+#[test]
+fn quantified_terms(rt: HostRuntime) {
+    expect(&rt, rt.alloc(), &QUANTIFIED_TERMS);
 }

@@ -14,13 +14,13 @@ use Rattle.proof_kernel.specs.declared.step.Reference.{Reference}
 use Rattle.proof_kernel.specs.declared.step.Reference.TheVariants.{Goal, Hyp as Of, Back}
 use Rattle.proof_kernel.specs.declared.step.Step.{Step}
 use Rattle.proof_kernel.specs.Intro.{assuming, declaring, taken}
-use Rattle.proof_kernel.specs.Rules.{label, same_label, hypothesis, sort_of, with_goal, lower_bound, upper_bound}
+use Rattle.proof_kernel.specs.Rules.{label, same_label, hypothesis, sort_of, with_goal}
 use Rattle.proof_kernel.specs.Linear.{Difference, row_of, row_back, row_if_found, referred, AreRows}
 use Rattle.proof_kernel.specs.Setting.{Setting}
 use Rattle.proof_kernel.specs.Steps.{labels_in, labels_of, new_names, IsLabelOf, IsVariableOf, AddsItsOwn}
-use Rattle.proof_kernel.specs.Derivation.{Gives, by_intro, by_hyp, by_split, by_range, by_lin, by_goal, by_hypothesis, by_two, by_rewriting, by_term}
+use Rattle.proof_kernel.specs.Derivation.{Gives, by_intro, by_hyp, by_split, by_lin, by_goal, by_hypothesis, by_two, by_rewriting, by_term, by_division, by_instance}
 use Rattle.proof_kernel.proofs.Each.{Each, Has, each_and, each_of, each_map, contains_itself}
-use Rattle.proof_kernel.proofs.FormsAdd.{goal_has, hypothesis_has, pair_has, rewriting_has, term_has, hypothesis_there, pair_there, rewriting_there}
+use Rattle.proof_kernel.proofs.FormsAdd.{goal_has, hypothesis_has, pair_has, rewriting_has, term_has, division_has, instance_has, instance_there, hypothesis_there, pair_there, rewriting_there}
 use Rattle.proof_kernel.proofs.Taken.{takes_off_computed}
 
 row_found : (row : Term → Option Difference) (o : Option Term) (d : Difference) → row_if_found row o ≡ Some d → (t : Term) × (o ≡ Some t)
@@ -63,14 +63,14 @@ module _ (P : Label2 → Type 0) (N : Name → Type 0) (s : ℕ) (own : (k : ℕ
   given_adds w q step ps (by_intro {names = names} {r = r} some i) new has = (tt, (taken_adds 1 names [] q.goal q r (takes_off_computed s names q r i.takes) new has, tt))
   given_adds w q step ps (by_hyp {h = h} e same) new has = (((h, e), tt), tt)
   given_adds w q step ps (by_split e) new has = (tt, goals_keep q _ has)
-  given_adds w q step ps (by_range {x = x} {k = k} e) new has =
-      (tt, ((more_hyps q.hyps ((label s 1, lower_bound k x) ∷ (label s 2, upper_bound k x) ∷ []) has.0 (own 1, (own 2, tt)), has.1), tt))
   given_adds w q step ps (by_lin {ms = ms} c) new has = (rows_there q ms c.rows c.are_rows, tt)
   given_adds w q step ps (by_goal {r = r} e) new has = (tt, goal_has P N s own q has ps r e)
   given_adds w q step ps (by_hypothesis {r = r} {l = l} e) new has = ((hypothesis_there s q ps r l e, tt), hypothesis_has P N s own q has ps r l e)
   given_adds w q step ps (by_two {r = r} {l = l} {m = m} e) new has = let there = pair_there s q ps r l m e in ((there.0, (there.1, tt)), pair_has P N s own q has ps r l m e)
   given_adds w q step ps (by_rewriting {r = r} e) new has = (rewriting_there s q ps r e, rewriting_has P N s own q has ps r e)
   given_adds w q step ps (by_term {r = r} {t = t} e) new has = (tt, term_has P N s own q has ps r t e)
+  given_adds w q step ps (by_division {t = t} {u = u} e) new has = (tt, division_has P N s own q has ps t u e)
+  given_adds w q step ps (by_instance {l = l} {ts = ts} e) new has = ((instance_there s q ps l ts e, tt), instance_has P N s own q has ps l ts e)
 
 -- ---- so what is added is the step's own
 

@@ -10,16 +10,17 @@ use Rattle.logic_term.proofs.CanonicalLaw.{same_up_to_names_means}
 use Rattle.proof_kernel.specs.Sequent.{Sequent}
 use Rattle.proof_kernel.specs.declared.setting.Tables.{Tables}
 use Rattle.proof_kernel.specs.declared.step.Step.{Step}
-use Rattle.proof_kernel.specs.declared.step.Step.TheVariants.{Intro, Hyp, Split, Range, Lin, OnGoal, OnHypothesis, OnTwo, Rewrite, OnTerm}
+use Rattle.proof_kernel.specs.declared.step.Step.TheVariants.{Intro, Hyp, Split, Lin, OnGoal, OnHypothesis, OnTwo, Rewrite, OnTerm, Divide, Instantiate}
 use Rattle.proof_kernel.specs.Sequent.{IsTrueAt, AllTrueAt}
 use Rattle.proof_kernel.specs.Setting.{Setting, IsStructureOf, setting_of, theory_of}
-use Rattle.proof_kernel.specs.Derivation.{Gives, by_intro, by_hyp, by_split, by_range, by_lin, by_goal, by_hypothesis, by_two, by_rewriting, by_term, CitedAreTrue, Derives, no_step, one_step, IsProof}
-use Rattle.proof_kernel.proofs.Sound.{held, conjuncts_sound, ranged_sound}
+use Rattle.proof_kernel.specs.Derivation.{Gives, by_intro, by_hyp, by_split, by_lin, by_goal, by_hypothesis, by_two, by_rewriting, by_term, by_division, by_instance, CitedAreTrue, Derives, no_step, one_step, IsProof}
+use Rattle.proof_kernel.proofs.Sound.{held, conjuncts_sound}
 use Rattle.proof_kernel.proofs.GoalSound.{goal_sound}
 use Rattle.proof_kernel.proofs.HypothesisSound.{hypothesis_sound}
 use Rattle.proof_kernel.proofs.PairSound.{pair_sound}
 use Rattle.proof_kernel.proofs.RewriteSound.{rewrite_sound}
-use Rattle.proof_kernel.proofs.TermSound.{term_sound}
+use Rattle.proof_kernel.proofs.TermSound.{term_sound, division_sound}
+use Rattle.proof_kernel.proofs.InstanceSound.{instance_sound}
 use Rattle.proof_kernel.proofs.IntroSound.{intros_sound}
 use Rattle.proof_kernel.proofs.LinearSound.{certifies_sound}
 
@@ -32,26 +33,28 @@ nothing_cited : (w : Setting) (S : Structure) (step : Step) → CitedAreTrue w S
 nothing_cited w S (Intro names) = tt
 nothing_cited w S (Hyp l) = tt
 nothing_cited w S Split = tt
-nothing_cited w S (Range x) = tt
 nothing_cited w S (Lin ms) = tt
 nothing_cited w S (OnGoal r) = tt
 nothing_cited w S (OnHypothesis r l) = tt
 nothing_cited w S (OnTwo r l m) = tt
 nothing_cited w S (Rewrite r) = tt
 nothing_cited w S (OnTerm r t) = tt
+nothing_cited w S (Divide t u) = tt
+nothing_cited w S (Instantiate l ts) = tt
 
 module _ (w : Setting) (S : Structure) (is : IsStructureOf w S) where
   pub gives_sound : (s : ℕ) (q : Sequent) (step : Step) (ps : List Sequent) → Gives w s q step ps → CitedAreTrue w S step → AllTrueAt S ps → IsTrueAt S q
   gives_sound s q step ps (by_intro {names = names} {r = r} some i) cited h = intros_sound S s names q r i h.0
   gives_sound s q step ps (by_hyp {l = l} {h = t} e same) cited h = λ ρ sorts hyps. same_holds S t q.goal ρ same (held S l q.hyps t ρ e hyps)
   gives_sound s q step ps (by_split e) cited h = conjuncts_sound S q q.goal h
-  gives_sound s q step ps (by_range {x = x} {k = k} e) cited h = ranged_sound S s x k q e h.0
   gives_sound s q step ps (by_lin {ms = ms} c) cited h = certifies_sound S q ms c
   gives_sound s q step ps (by_goal {r = r} e) cited h = goal_sound S s q ps h r e
   gives_sound s q step ps (by_hypothesis {r = r} {l = l} e) cited h = hypothesis_sound S s q ps h r l e
   gives_sound s q step ps (by_two {r = r} {l = l} {m = m} e) cited h = pair_sound S s q ps h r l m e
   gives_sound s q step ps (by_rewriting {r = r} e) cited h = rewrite_sound S s q ps h r e
   gives_sound s q step ps (by_term {r = r} {t = t} e) cited h = term_sound S s q ps h r t e
+  gives_sound s q step ps (by_division {t = t} {u = u} e) cited h = division_sound S s q ps h t u e
+  gives_sound s q step ps (by_instance {l = l} {ts = ts} e) cited h = instance_sound S s q ps h l ts e
 
   both_true : (ps qs : List Sequent) → AllTrueAt S (ps ++ qs) → AllTrueAt S ps × AllTrueAt S qs
   both_true [] qs h = (tt, h)

@@ -3,7 +3,9 @@ use Rattle.std.proofs.Common.{◌≡◌, ℕ, suc, Bool, true, false, cond, List
 use Rattle.std.specs.Option.{option_map}
 use Rattle.text_core.specs.declared.name.Name.{Name}
 use Rattle.logic_term.specs.declared.kinds.Label2.{Label2}
+use Rattle.logic_term.specs.Normal.{reduced}
 use Rattle.logic_term.specs.Term.{Term, not}
+use Rattle.logic_elab.specs.declared.sorted.SortedTerm.{SortedTerm}
 use Rattle.proof_kernel.specs.Sequent.{Sequent}
 use Rattle.proof_kernel.specs.declared.step.GoalRule.{GoalRule}
 use Rattle.proof_kernel.specs.declared.step.GoalRule.TheVariants.{Refl, Truth, Left, Right, Contra, ByContradiction, Iff, Antisymmetry}
@@ -21,8 +23,9 @@ use Rattle.proof_kernel.specs.HypothesisRules.{is_false, cases_of, in_cases, on_
 use Rattle.proof_kernel.specs.PairRules.{concluded, is_denied_by, distance, product, adding, on_two, pair_rule}
 use Rattle.source_trees.specs.Pterm.{Pterm}
 use Rattle.proof_kernel.specs.declared.step.TermRule.{TermRule}
-use Rattle.proof_kernel.specs.declared.step.TermRule.TheVariants.{Cut, On}
-use Rattle.proof_kernel.specs.TermRules.{formula_at, on_formula, by_formula, term_rule}
+use Rattle.proof_kernel.specs.declared.step.TermRule.TheVariants.{Cut, On, Range}
+use Rattle.proof_kernel.specs.TermRules.{term_at, assuming_all, formula, shown_first, true_or_false, bounds_at, by_term, by_term_if, term_rule, number_if, division_of, division_rule}
+use Rattle.proof_kernel.specs.Instances.{instance_if, instance_rule}
 use Rattle.proof_kernel.specs.RewriteRules.{rewritten, changing, rewrite_rule}
 use Rattle.proof_kernel.specs.Rules.{label, same_label, hypothesis, without, labelled, with_goal, with_hyps, closed_if}
 use Rattle.proof_kernel.specs.Steps.{label_of_target, labels_of, IsLabelOf}
@@ -47,6 +50,13 @@ target_there s q ps (targets.Hyp l) f e = (added_there (hypothesis l q.hyps) e, 
 
 pub rewriting_there : (s : ℕ) (q : Sequent) (ps : List Sequent) (r : Rewriting) → rewrite_rule r s q ≡ Some ps → Each (IsLabelOf q) (labels_of (Rewrite r))
 rewriting_there s q ps r e = let f = rewriting_found r s q ps e in ((f.0, f.2), target_there s q ps r.target (rewritten f.1.0 f.1.1) f.4)
+
+pub instance_there : (s : ℕ) (q : Sequent) (ps : List Sequent) (l : Label2) (ts : List Pterm) → instance_rule s q l ts ≡ Some ps → IsLabelOf q l
+instance_there s q ps l ts e = at (hypothesis l q.hyps) e
+  where
+    at : (o : Option Term) → assuming_all s q (instance_if q ts o) ≡ Some ps → (t : Term) × (o ≡ Some t)
+    at None f = absurd (cc)
+    at (Some t) f = (t, refl)
 
 -- ---- what is added
 
@@ -140,13 +150,32 @@ module _ (P : Label2 → Type 0) (N : Name → Type 0) (s : ℕ) (own : (k : ℕ
   pub rewriting_has : (r : Rewriting) → rewrite_rule r s q ≡ Some ps → Each (Has P N) ps
   rewriting_has r e = let f = rewriting_found r s q ps e in changing_has r.target (rewritten f.1.0 f.1.1) f.4
 
-  on_formula_has : (r : TermRule) (f : Term) → Each (Has P N) (on_formula r s q f)
-  on_formula_has Cut f = (has, (more_has (f ∷ []), tt))
-  on_formula_has On f = (more_has (f ∷ []), (more_has (not f ∷ []), tt))
+  shown_has : (o : Option Term) → option_map (shown_first s q) o ≡ Some ps → Each (Has P N) ps
+  shown_has None e = absurd (cc)
+  shown_has (Some f) e = these_have _ e (has, (more_has (f ∷ []), tt))
 
-  by_formula_has : (r : TermRule) (o : Option Term) → by_formula r s q o ≡ Some ps → Each (Has P N) ps
-  by_formula_has r None e = absurd (cc)
-  by_formula_has r (Some f) e = these_have _ e (on_formula_has r f)
+  true_or_false_has : (o : Option Term) → option_map (true_or_false s q) o ≡ Some ps → Each (Has P N) ps
+  true_or_false_has None e = absurd (cc)
+  true_or_false_has (Some f) e = these_have _ e (more_has (f ∷ []), (more_has (not f ∷ []), tt))
+
+  assuming_all_has : (o : Option (List Term)) → assuming_all s q o ≡ Some ps → Each (Has P N) ps
+  assuming_all_has None e = absurd (cc)
+  assuming_all_has (Some ts) e = these_have _ e (more_has (map reduced ts), tt)
+
+  by_term_has : (r : TermRule) (a : SortedTerm) → by_term r s q a ≡ Some ps → Each (Has P N) ps
+  by_term_has Cut a e = shown_has (formula a) e
+  by_term_has On a e = true_or_false_has (formula a) e
+  by_term_has Range a e = assuming_all_has (bounds_at a.sort a.term) e
+
+  by_term_if_has : (r : TermRule) (o : Option SortedTerm) → by_term_if r s q o ≡ Some ps → Each (Has P N) ps
+  by_term_if_has r None e = absurd (cc)
+  by_term_if_has r (Some a) e = by_term_has r a e
 
   pub term_has : (r : TermRule) (t : Pterm) → term_rule r s q t ≡ Some ps → Each (Has P N) ps
-  term_has r t e = by_formula_has r (formula_at q t) e
+  term_has r t e = by_term_if_has r (term_at q t) e
+
+  pub division_has : (t u : Pterm) → division_rule s q t u ≡ Some ps → Each (Has P N) ps
+  division_has t u e = assuming_all_has (division_of (number_if (term_at q t)) (number_if (term_at q u))) e
+
+  pub instance_has : (l : Label2) (ts : List Pterm) → instance_rule s q l ts ≡ Some ps → Each (Has P N) ps
+  instance_has l ts e = assuming_all_has (instance_if q ts (hypothesis l q.hyps)) e

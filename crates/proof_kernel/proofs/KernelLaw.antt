@@ -3,20 +3,18 @@ use Rattle.std.proofs.Common.{◌≡◌, ℕ, List, [], ◌∷◌, ◌++◌, ◌
 use Rattle.std.specs.Global.{Vec}
 use Rattle.text_core.specs.declared.name.Name.{Name}
 use Rattle.logic_term.specs.declared.kinds.Label2.{Label2}
-use Rattle.source_kinds.specs.declared.kinds.IntKind.{IntKind}
-use Rattle.logic_term.specs.Ty.{int}
 use Rattle.logic_term.specs.Term.{Term, is_conjunction}
 use Rattle.logic_term.specs.Canonical.{SameUpToNames}
 use Rattle.proof_kernel.specs.declared.step.Multiple.{Multiple}
 use Rattle.proof_kernel.specs.Sequent.{Sequent}
 use Rattle.proof_kernel.specs.declared.step.Step.{Step}
-use Rattle.proof_kernel.specs.declared.step.Step.TheVariants.{Intro, Hyp, Split, Range, Lin, OnGoal, OnHypothesis, OnTwo, Rewrite, OnTerm}
+use Rattle.proof_kernel.specs.declared.step.Step.TheVariants.{Intro, Hyp, Split, Lin, OnGoal, OnHypothesis, OnTwo, Rewrite, OnTerm, Divide, Instantiate}
 use Rattle.proof_kernel.specs.declared.kernel.Made.{Made}
 use Rattle.proof_kernel.specs.declared.kernel.Made.TheVariants.{Premises, TooWide, Nothing}
 use Rattle.proof_kernel.specs.Setting.{Setting}
 use Rattle.proof_kernel.specs.Progress.{Progress}
 use Rattle.proof_kernel.proofs.Once.{given}
-use Rattle.proof_kernel.specs.Derivation.{Gives, by_intro, by_hyp, by_split, by_range, by_lin, by_goal, by_hypothesis, by_two, by_rewriting, by_term}
+use Rattle.proof_kernel.specs.Derivation.{Gives, by_intro, by_hyp, by_split, by_lin, by_goal, by_hypothesis, by_two, by_rewriting, by_term, by_division, by_instance}
 use Rattle.proof_kernel.specs.Linear.{Certifies}
 use Rattle.proof_kernel.specs.declared.step.GoalRule.{GoalRule}
 use Rattle.proof_kernel.specs.declared.step.HypothesisRule.{HypothesisRule}
@@ -28,8 +26,9 @@ use Rattle.proof_kernel.specs.GoalRules.{goal_rule}
 use Rattle.proof_kernel.specs.HypothesisRules.{hypothesis_rule}
 use Rattle.proof_kernel.specs.PairRules.{pair_rule}
 use Rattle.proof_kernel.specs.RewriteRules.{rewrite_rule}
-use Rattle.proof_kernel.specs.TermRules.{term_rule}
-use Rattle.proof_kernel.specs.Rules.{Finds, hypothesis, sort_of, with_goal, conjuncts, ranged, Intros, TakesSome}
+use Rattle.proof_kernel.specs.TermRules.{term_rule, division_rule}
+use Rattle.proof_kernel.specs.Instances.{instance_rule}
+use Rattle.proof_kernel.specs.Rules.{Finds, hypothesis, with_goal, conjuncts, Intros, TakesSome}
 use Rattle.proof_kernel.specs.Kernel.{Applies, IsWide}
 use Rattle.proof_kernel.specs.Made.{IsMadeFirst, PassesWidthAt, others_of}
 
@@ -40,12 +39,13 @@ wide_at : (w : Setting) (q : Sequent) (qs : List Sequent) (step : Step) (s : ℕ
 wide_at w q qs (Intro names) s p = absurd p
 wide_at w q qs (Hyp l) s p = absurd p
 wide_at w q qs Split s p = absurd p
-wide_at w q qs (Range x) s p = absurd p
 wide_at w q qs (OnGoal r) s p = absurd p
 wide_at w q qs (OnHypothesis r l) s p = absurd p
 wide_at w q qs (OnTwo r l m) s p = absurd p
 wide_at w q qs (Rewrite r) s p = absurd p
 wide_at w q qs (OnTerm r t) s p = absurd p
+wide_at w q qs (Divide t u) s p = absurd p
+wide_at w q qs (Instantiate l ts) s p = absurd p
 wide_at w q qs (Lin ms) s p = record { first = q; others = qs; multiples = ms; was = refl; is_lin = refl; passes = p }
 
 is_wide : (w : Setting) (left : List Sequent) (step : Step) (s : ℕ) → IsMadeFirst w s left step TooWide → IsWide (at w s left) step
@@ -99,9 +99,6 @@ hyp_given w s q l ps p e = subst (λ ps. Gives w s q (Hyp l) ps) (sym e) (by_hyp
 pub split_given : (w : Setting) (s : ℕ) (q : Sequent) (ps : List Sequent) → is_conjunction q.goal ≡ true → ps ≡ map (with_goal q) (conjuncts q.goal) → Gives w s q Split ps
 split_given w s q ps c e = subst (λ ps. Gives w s q Split ps) (sym e) (by_split c)
 
-pub range_given : (w : Setting) (s : ℕ) (q r : Sequent) (x : Name) (ps : List Sequent) → (k : IntKind) × (sort_of x q.vars ≡ Some (int k)) × (r ≡ ranged s k x q) → ps ≡ r ∷ [] → Gives w s q (Range x) ps
-range_given w s q r x ps p e = subst (λ ps. Gives w s q (Range x) ps) (sym (e ∙ ap (λ r. r ∷ []) p.2)) (by_range p.1)
-
 pub lin_given : (w : Setting) (s : ℕ) (q : Sequent) (ns ms : List Multiple) (ps : List Sequent) → ns ≡ ms → Certifies q ns → ps ≡ [] → Gives w s q (Lin ms) ps
 lin_given w s q ns ms ps n c e = subst (λ l. Gives w s q (Lin ms) l) (sym e) (subst (λ l. Gives w s q (Lin l) []) n (by_lin c))
 
@@ -145,3 +142,15 @@ module _ (w : Setting) (s : ℕ) (q : Sequent) (o : Option (Vec Sequent)) where
 
   pub no_term : (r : TermRule) (t : Pterm) → o ≡ None → Finds (term_rule r s q t) o → (ps : List Sequent) → Gives w s q (OnTerm r t) ps → ⊥
   no_term r t e f ps g = none_is (term_rule r s q t) o ps e f (given w s q (OnTerm r t) ps g)
+
+  pub division_given : (t u : Pterm) (v : Vec Sequent) → o ≡ Some v → Finds (division_rule s q t u) o → Gives w s q (Divide t u) v.items
+  division_given t u v e f = by_division (found_is (division_rule s q t u) o v e f)
+
+  pub no_division : (t u : Pterm) → o ≡ None → Finds (division_rule s q t u) o → (ps : List Sequent) → Gives w s q (Divide t u) ps → ⊥
+  no_division t u e f ps g = none_is (division_rule s q t u) o ps e f (given w s q (Divide t u) ps g)
+
+  pub instance_given : (l : Label2) (ts : List Pterm) (v : Vec Sequent) → o ≡ Some v → Finds (instance_rule s q l ts) o → Gives w s q (Instantiate l ts) v.items
+  instance_given l ts v e f = by_instance (found_is (instance_rule s q l ts) o v e f)
+
+  pub no_instance : (l : Label2) (ts : List Pterm) → o ≡ None → Finds (instance_rule s q l ts) o → (ps : List Sequent) → Gives w s q (Instantiate l ts) ps → ⊥
+  no_instance l ts e f ps g = none_is (instance_rule s q l ts) o ps e f (given w s q (Instantiate l ts) ps g)

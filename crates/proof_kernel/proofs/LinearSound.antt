@@ -56,13 +56,13 @@ each_map P Q f (t ∷ ts) h = (f t h.0, each_map P Q f ts h.1)
 pub at_most_true : (x y : ℤ) → int_le x y ≡ true → x ≤ℤ y
 at_most_true x y e = grind (arith, ints)
 
-less_true : (x y : ℤ) → int_lt x y ≡ true → x <ℤ y
+pub less_true : (x y : ℤ) → int_lt x y ≡ true → x <ℤ y
 less_true x y e = grind (arith, ints)
 
 pub true_at_most : (x y : ℤ) → x ≤ℤ y → int_le x y ≡ true
 true_at_most x y e = grind (arith, ints)
 
-true_less : (x y : ℤ) → x <ℤ y → int_lt x y ≡ true
+pub true_less : (x y : ℤ) → x <ℤ y → int_lt x y ≡ true
 true_less x y e = grind (arith, ints)
 
 -- an order that cannot fail holds

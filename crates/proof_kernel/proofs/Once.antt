@@ -1,24 +1,23 @@
 -- What a step gives is one list of premises.
 use Rattle.std.proofs.Common.{◌≡◌, ℕ, ◌+◌, true, List, [], ◌∷◌, ◌++◌, map, Option, Some, refl, sym, ◌∙◌, ap, subst}
 use Rattle.text_core.specs.declared.name.Name.{Name}
-use Rattle.source_kinds.specs.declared.kinds.IntKind.{IntKind}
-use Rattle.logic_term.specs.Ty.{Ty, int}
 use Rattle.logic_term.specs.Term.{Term, is_conjunction}
 use Rattle.logic_term.specs.Canonical.{SameUpToNames}
 use Rattle.proof_kernel.specs.Sequent.{Sequent}
 use Rattle.proof_kernel.specs.declared.step.Step.{Step}
-use Rattle.proof_kernel.specs.declared.step.Step.TheVariants.{Intro, Hyp, Split, Range, Lin, OnGoal, OnHypothesis, OnTwo, Rewrite, OnTerm}
+use Rattle.proof_kernel.specs.declared.step.Step.TheVariants.{Intro, Hyp, Split, Lin, OnGoal, OnHypothesis, OnTwo, Rewrite, OnTerm, Divide, Instantiate}
 use Rattle.proof_kernel.specs.declared.step.Multiple.{Multiple}
 use Rattle.proof_kernel.specs.Linear.{Difference, referred, AreRows, AreNarrow, Certifies, PassesWidth}
 use Rattle.proof_kernel.specs.GoalRules.{goal_rule}
 use Rattle.proof_kernel.specs.HypothesisRules.{hypothesis_rule}
 use Rattle.proof_kernel.specs.PairRules.{pair_rule}
 use Rattle.proof_kernel.specs.RewriteRules.{rewrite_rule}
-use Rattle.proof_kernel.specs.TermRules.{term_rule}
-use Rattle.proof_kernel.specs.Rules.{hypothesis, sort_of, with_goal, conjuncts, ranged, Intros, TakesSome}
+use Rattle.proof_kernel.specs.TermRules.{term_rule, division_rule}
+use Rattle.proof_kernel.specs.Instances.{instance_rule}
+use Rattle.proof_kernel.specs.Rules.{hypothesis, with_goal, conjuncts, Intros, TakesSome}
 use Rattle.proof_kernel.specs.Setting.{Setting}
 use Rattle.proof_kernel.specs.Progress.{Progress}
-use Rattle.proof_kernel.specs.Derivation.{Gives, by_intro, by_hyp, by_split, by_range, by_lin, by_goal, by_hypothesis, by_two, by_rewriting, by_term}
+use Rattle.proof_kernel.specs.Derivation.{Gives, by_intro, by_hyp, by_split, by_lin, by_goal, by_hypothesis, by_two, by_rewriting, by_term, by_division, by_instance}
 use Rattle.proof_kernel.specs.Kernel.{Applies, IsWide}
 use Rattle.proof_kernel.proofs.Taken.{takes_off_once}
 
@@ -27,33 +26,32 @@ abbrev pub Given : Setting → ℕ → Sequent → Step → List Sequent → Typ
 Given w s q (Intro names) ps = TakesSome names q × ((r : Sequent) × Intros s names q r × (ps ≡ r ∷ []))
 Given w s q (Hyp l) ps = (ps ≡ []) × ((h : Term) × (hypothesis l q.hyps ≡ Some h) × SameUpToNames h q.goal)
 Given w s q Split ps = (is_conjunction q.goal ≡ true) × (ps ≡ map (with_goal q) (conjuncts q.goal))
-Given w s q (Range x) ps = (k : IntKind) × (sort_of x q.vars ≡ Some (int k)) × (ps ≡ ranged s k x q ∷ [])
 Given w s q (Lin ms) ps = (ps ≡ []) × Certifies q ms
 Given w s q (OnGoal r) ps = goal_rule r s q ≡ Some ps
 Given w s q (OnHypothesis r l) ps = hypothesis_rule r s l q ≡ Some ps
 Given w s q (OnTwo r l m) ps = pair_rule r s l m q ≡ Some ps
 Given w s q (Rewrite r) ps = rewrite_rule r s q ≡ Some ps
 Given w s q (OnTerm r t) ps = term_rule r s q t ≡ Some ps
+Given w s q (Divide t u) ps = division_rule s q t u ≡ Some ps
+Given w s q (Instantiate l ts) ps = instance_rule s q l ts ≡ Some ps
 
 pub given : (w : Setting) (s : ℕ) (q : Sequent) (step : Step) (ps : List Sequent) → Gives w s q step ps → Given w s q step ps
 given w s q step ps (by_intro {r = r} some i) = (some, (r, i, refl))
 given w s q step ps (by_hyp {h = h} e same) = (refl, (h, e, same))
 given w s q step ps (by_split e) = (e, refl)
-given w s q step ps (by_range {k = k} e) = (k, e, refl)
 given w s q step ps (by_lin c) = (refl, c)
 given w s q step ps (by_goal e) = e
 given w s q step ps (by_hypothesis e) = e
 given w s q step ps (by_two e) = e
 given w s q step ps (by_rewriting e) = e
 given w s q step ps (by_term e) = e
+given w s q step ps (by_division e) = e
+given w s q step ps (by_instance e) = e
 
 -- ---- each is one
 
 intros_once : (s : ℕ) (names : List Name) (q r p : Sequent) → Intros s names q r → Intros s names q p → p ≡ r
 intros_once s names q r p i j = takes_off_once s names q r p i.takes j.takes
-
-same_kind : (o : Option Ty) (k l : IntKind) → o ≡ Some (int k) → o ≡ Some (int l) → k ≡ l
-same_kind o k l e f = cc
 
 same_premises : (o : Option (List Sequent)) (ps rs : List Sequent) → o ≡ Some ps → o ≡ Some rs → ps ≡ rs
 same_premises o ps rs e f = cc
@@ -62,13 +60,14 @@ once : (w : Setting) (s : ℕ) (q : Sequent) (step : Step) (ps rs : List Sequent
 once w s q (Intro names) ps rs g h = g.1.2 ∙ (ap (λ r. r ∷ []) (intros_once s names q h.1.0 g.1.0 h.1.1 g.1.1) ∙ sym h.1.2)
 once w s q (Hyp l) ps rs g h = g.0 ∙ sym h.0
 once w s q Split ps rs g h = g.1 ∙ sym h.1
-once w s q (Range x) ps rs g h = g.2 ∙ (ap (λ k. ranged s k x q ∷ []) (same_kind (sort_of x q.vars) g.0 h.0 g.1 h.1) ∙ sym h.2)
 once w s q (Lin ms) ps rs g h = g.0 ∙ sym h.0
 once w s q (OnGoal r) ps rs g h = same_premises (goal_rule r s q) ps rs g h
 once w s q (OnHypothesis r l) ps rs g h = same_premises (hypothesis_rule r s l q) ps rs g h
 once w s q (OnTwo r l m) ps rs g h = same_premises (pair_rule r s l m q) ps rs g h
 once w s q (Rewrite r) ps rs g h = same_premises (rewrite_rule r s q) ps rs g h
 once w s q (OnTerm r t) ps rs g h = same_premises (term_rule r s q t) ps rs g h
+once w s q (Divide t u) ps rs g h = same_premises (division_rule s q t u) ps rs g h
+once w s q (Instantiate l ts) ps rs g h = same_premises (instance_rule s q l ts) ps rs g h
 
 pub gives_once : (w : Setting) (s : ℕ) (q : Sequent) (step : Step) (ps rs : List Sequent) → Gives w s q step ps → Gives w s q step rs → ps ≡ rs
 gives_once w s q step ps rs g h = once w s q step ps rs (given w s q step ps g) (given w s q step rs h)
@@ -108,12 +107,13 @@ given_is_narrow : (w : Setting) (s : ℕ) (q : Sequent) (step : Step) (ps : List
 given_is_narrow w s q (Intro names) ps ms e g p = absurd (cc)
 given_is_narrow w s q (Hyp l) ps ms e g p = absurd (cc)
 given_is_narrow w s q Split ps ms e g p = absurd (cc)
-given_is_narrow w s q (Range x) ps ms e g p = absurd (cc)
 given_is_narrow w s q (OnGoal r) ps ms e g p = absurd (cc)
 given_is_narrow w s q (OnHypothesis r l) ps ms e g p = absurd (cc)
 given_is_narrow w s q (OnTwo r l m) ps ms e g p = absurd (cc)
 given_is_narrow w s q (Rewrite r) ps ms e g p = absurd (cc)
 given_is_narrow w s q (OnTerm r t) ps ms e g p = absurd (cc)
+given_is_narrow w s q (Divide t u) ps ms e g p = absurd (cc)
+given_is_narrow w s q (Instantiate l ts) ps ms e g p = absurd (cc)
 given_is_narrow w s q (Lin ns) ps ms e g p = let same : ns ≡ ms = cc in closed_is_narrow q ms (subst (λ l. Certifies q l) same g.1) p
 
 pub wide_is_not_done : (before after : Progress) (step : Step) → IsWide before step → Applies before step after → ⊥

@@ -1,23 +1,17 @@
 -- Each rule is sound: where its premises are true, the sequent is.
 use Rattle.std.proofs.Common.{◌≡◌, ℕ, ◌==◌, ◌&&◌, Bool, true, false, cond, List, [], ◌∷◌, ◌++◌, map, Option, Some, ◌⊎◌, inl, inr, refl, sym, ◌∙◌, ap, subst, true≢false}
-use Rattle.std.specs.Prelude.{int_le}
 use Rattle.text_core.specs.declared.name.Name.{Name}
 use Rattle.logic_term.specs.declared.kinds.Label2.{Label2}
-use Rattle.source_kinds.specs.declared.kinds.IntKind.{IntKind}
-use Rattle.logic_term.specs.Ty.{Ty, int, math_int}
-use Rattle.source_kinds.specs.Range.{lowest, highest}
-use Rattle.logic_term.specs.Value.{Number, integer_of}
+use Rattle.logic_term.specs.Ty.{Ty}
 use Rattle.logic_term.specs.Sort.{HasSort, instance}
 use Rattle.logic_term.specs.Theory.{declared}
-use Rattle.logic_term.specs.Term.{both, Term, var, lit, apply, no_terms, and_term, model}
+use Rattle.logic_term.specs.Term.{both, Term, apply, no_terms, and_term}
 use Rattle.logic_term.specs.Meaning.{Structure, Env, Holds}
-use Rattle.logic_term.proofs.Alike.{alike_same}
 use Rattle.logic_term.proofs.FreeLaw.{same_name, same_test}
-use Rattle.logic_term.proofs.SortLaw.{int_value}
-use Rattle.logic_term.proofs.Truth.{holds_and, holds_at_most, computes_model}
+use Rattle.logic_term.proofs.Truth.{holds_and}
 use Rattle.proof_kernel.specs.Sequent.{Sequent}
 use Rattle.proof_kernel.specs.Sequent.{InSorts, AllHold, IsTrueAt, AllTrueAt}
-use Rattle.proof_kernel.specs.Rules.{same_label, hypothesis, sort_of, with_goal, conjuncts, lower_bound, upper_bound, ranged}
+use Rattle.proof_kernel.specs.Rules.{same_label, hypothesis, sort_of, with_goal, conjuncts}
 
 pub and_true : (a b : Bool) → (a && b) ≡ true → (a ≡ true) × (b ≡ true)
 and_true true b e = (refl, e)
@@ -65,15 +59,3 @@ module _ (S : Structure) where
       let p = both_parts (with_goal q) (conjuncts a) (conjuncts b) h in
       (holds_and S a b ρ).1 (conjuncts_sound q a p.0 ρ z k, conjuncts_sound q b p.1 ρ z k)
   conjuncts_sound q t h ρ z k = h.0 ρ z k
-
-  -- ---- range
-
-  pub ranged_sound : (s : ℕ) (x : Name) (k : IntKind) (q : Sequent) → sort_of x q.vars ≡ Some (int k) → IsTrueAt S (ranged s k x q) → IsTrueAt S q
-  ranged_sound s x k q e true_r ρ z h =
-      let v = int_value (declared S.theory) (ρ x) (int k) k (sorted x q.vars (int k) ρ e z) refl in
-      let in_range = and_true (int_le (lowest k) v.0) (int_le v.0 (highest k)) v.2 in
-      let here : integer_of (ρ x) ≡ v.0 = ap integer_of v.1 in
-      let model_is = computes_model S (var x) ρ (ρ x) (alike_same _) in
-      let low : Holds S (lower_bound k x) ρ = (holds_at_most S (lit (lowest k) math_int) (model (var x)) ρ (Number (lowest k)) (Number (integer_of (ρ x))) (alike_same _) model_is).1 (ap (λ i. int_le (lowest k) i) here ∙ in_range.0) in
-      let high : Holds S (upper_bound k x) ρ = (holds_at_most S (model (var x)) (lit (highest k) math_int) ρ (Number (integer_of (ρ x))) (Number (highest k)) model_is (alike_same _)).1 (ap (λ i. int_le i (highest k)) here ∙ in_range.1) in
-      true_r ρ z (hyps_more q.hyps _ ρ h (low, (high, tt)))

@@ -2,9 +2,7 @@
 use Rattle.std.specs.Prelude.{◌≡◌, ℕ, suc, true, List, [], ◌∷◌, ◌++◌, map, Some}
 use Rattle.text_core.specs.declared.name.Name.{Name}
 use Rattle.logic_term.specs.declared.kinds.Label2.{Label2}
-use Rattle.source_kinds.specs.declared.kinds.IntKind.{IntKind}
 use Rattle.logic_term.specs.declared.obligation.Obligation.{Obligation}
-use Rattle.logic_term.specs.Ty.{int}
 use Rattle.logic_term.specs.Term.{Term, is_conjunction}
 use Rattle.logic_term.specs.Canonical.{SameUpToNames}
 use Rattle.logic_term.specs.Meaning.{Structure}
@@ -17,7 +15,7 @@ use Rattle.proof_kernel.specs.declared.step.HypothesisRule.{HypothesisRule}
 use Rattle.proof_kernel.specs.declared.step.PairRule.{PairRule}
 use Rattle.proof_kernel.specs.declared.step.Rewriting.{Rewriting}
 use Rattle.proof_kernel.specs.declared.step.TermRule.{TermRule}
-use Rattle.proof_kernel.specs.declared.step.Step.TheVariants.{Intro, Hyp, Split, Range, Lin, OnGoal, OnHypothesis, OnTwo, Rewrite, OnTerm}
+use Rattle.proof_kernel.specs.declared.step.Step.TheVariants.{Intro, Hyp, Split, Lin, OnGoal, OnHypothesis, OnTwo, Rewrite, OnTerm, Divide, Instantiate}
 use Rattle.proof_kernel.specs.Sequent.{sequent_of}
 use Rattle.proof_kernel.specs.Setting.{Setting, setting_of}
 use Rattle.proof_kernel.specs.Linear.{Certifies}
@@ -25,35 +23,38 @@ use Rattle.proof_kernel.specs.GoalRules.{goal_rule}
 use Rattle.proof_kernel.specs.HypothesisRules.{hypothesis_rule}
 use Rattle.proof_kernel.specs.PairRules.{pair_rule}
 use Rattle.proof_kernel.specs.RewriteRules.{rewrite_rule}
-use Rattle.proof_kernel.specs.TermRules.{term_rule}
+use Rattle.proof_kernel.specs.TermRules.{term_rule, division_rule}
+use Rattle.proof_kernel.specs.Instances.{instance_rule}
 use Rattle.source_trees.specs.Pterm.{Pterm}
-use Rattle.proof_kernel.specs.Rules.{hypothesis, sort_of, with_goal, Intros, TakesSome, conjuncts, ranged}
+use Rattle.proof_kernel.specs.Rules.{hypothesis, with_goal, Intros, TakesSome, conjuncts}
 
 -- step number s makes these premises of the sequent
 pub data Gives (w : Setting) (s : ℕ) (q : Sequent) : Step → List Sequent → Type 0 where
   by_intro : {names : List Name} {r : Sequent} → TakesSome names q → Intros s names q r → Gives w s q (Intro names) (r ∷ [])
   by_hyp : {l : Label2} {h : Term} → hypothesis l q.hyps ≡ Some h → SameUpToNames h q.goal → Gives w s q (Hyp l) []
   by_split : is_conjunction q.goal ≡ true → Gives w s q Split (map (with_goal q) (conjuncts q.goal))
-  by_range : {x : Name} {k : IntKind} → sort_of x q.vars ≡ Some (int k) → Gives w s q (Range x) (ranged s k x q ∷ [])
   by_lin : {ms : List Multiple} → Certifies q ms → Gives w s q (Lin ms) []
   by_goal : {r : GoalRule} {ps : List Sequent} → goal_rule r s q ≡ Some ps → Gives w s q (OnGoal r) ps
   by_hypothesis : {r : HypothesisRule} {l : Label2} {ps : List Sequent} → hypothesis_rule r s l q ≡ Some ps → Gives w s q (OnHypothesis r l) ps
   by_two : {r : PairRule} {l m : Label2} {ps : List Sequent} → pair_rule r s l m q ≡ Some ps → Gives w s q (OnTwo r l m) ps
   by_rewriting : {r : Rewriting} {ps : List Sequent} → rewrite_rule r s q ≡ Some ps → Gives w s q (Rewrite r) ps
   by_term : {r : TermRule} {t : Pterm} {ps : List Sequent} → term_rule r s q t ≡ Some ps → Gives w s q (OnTerm r t) ps
+  by_division : {t u : Pterm} {ps : List Sequent} → division_rule s q t u ≡ Some ps → Gives w s q (Divide t u) ps
+  by_instance : {l : Label2} {ts : List Pterm} {ps : List Sequent} → instance_rule s q l ts ≡ Some ps → Gives w s q (Instantiate l ts) ps
 
 -- what the step cites besides hypotheses is true in the structure; no step cites anything else yet
 abbrev pub CitedAreTrue : Setting → Structure → Step → Type 0
 CitedAreTrue w S (Intro names) = Unit {0}
 CitedAreTrue w S (Hyp l) = Unit {0}
 CitedAreTrue w S Split = Unit {0}
-CitedAreTrue w S (Range x) = Unit {0}
 CitedAreTrue w S (Lin ms) = Unit {0}
 CitedAreTrue w S (OnGoal r) = Unit {0}
 CitedAreTrue w S (OnHypothesis r l) = Unit {0}
 CitedAreTrue w S (OnTwo r l m) = Unit {0}
 CitedAreTrue w S (Rewrite r) = Unit {0}
 CitedAreTrue w S (OnTerm r t) = Unit {0}
+CitedAreTrue w S (Divide t u) = Unit {0}
+CitedAreTrue w S (Instantiate l ts) = Unit {0}
 
 -- the steps, numbered from s, lead from the first sequents to the second; each acts on the first and puts its premises there
 pub data Derives (w : Setting) : ℕ → List Sequent → List Step → List Sequent → Type 0 where

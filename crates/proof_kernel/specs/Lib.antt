@@ -6,6 +6,7 @@ pub mod ExchangeSteps
 pub mod Exchanged
 pub mod GoalRules
 pub mod HypothesisRules
+pub mod Instances
 pub mod Intro
 pub mod Kernel
 pub mod Laws

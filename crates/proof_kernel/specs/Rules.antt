@@ -4,10 +4,8 @@ use Rattle.std.specs.Global.{Vec}
 use Rattle.std.specs.List.{enumerate_from}
 use Rattle.text_core.specs.declared.name.Name.{Name}
 use Rattle.logic_term.specs.declared.kinds.Label2.{Label2}
-use Rattle.source_kinds.specs.declared.kinds.IntKind.{IntKind}
-use Rattle.logic_term.specs.Ty.{Ty, math_int}
-use Rattle.source_kinds.specs.Range.{lowest, highest}
-use Rattle.logic_term.specs.Term.{both, Term, var, lit, apply, no_terms, and_term, model, is_at_most, implies, forall, is_implication}
+use Rattle.logic_term.specs.Ty.{Ty}
+use Rattle.logic_term.specs.Term.{both, Term, apply, no_terms, and_term, implies, forall, is_implication}
 use Rattle.logic_term.specs.Free.{free}
 use Rattle.logic_term.specs.declared.subst.Renaming.{Renaming}
 use Rattle.logic_term.specs.Canonical.{is_one_of, canonical}
@@ -149,15 +147,3 @@ TakesSome names q = names ≡ [] → is_implication q.goal ≡ true
 abbrev pub conjuncts : Term → List Term
 conjuncts (apply both (and_term a (and_term b no_terms))) = conjuncts a ++ conjuncts b
 conjuncts t = t ∷ []
-
--- ---- range
-
--- the bounds of `x@`
-abbrev pub lower_bound : IntKind → Name → Term
-lower_bound k x = is_at_most (lit (lowest k) math_int) (model (var x))
-
-abbrev pub upper_bound : IntKind → Name → Term
-upper_bound k x = is_at_most (model (var x)) (lit (highest k) math_int)
-
-abbrev pub ranged : ℕ → IntKind → Name → Sequent → Sequent
-ranged s k x q = record { vars = q.vars; hyps = q.hyps ++ (label s 1, lower_bound k x) ∷ (label s 2, upper_bound k x) ∷ []; goal = q.goal }

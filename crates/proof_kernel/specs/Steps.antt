@@ -11,7 +11,7 @@ use Rattle.proof_kernel.specs.declared.step.Reference.TheVariants.{Goal, Hyp as 
 use Rattle.proof_kernel.specs.declared.step.Step.{Step}
 use Rattle.proof_kernel.specs.declared.step.Target.{Target}
 use Rattle.proof_kernel.specs.declared.step.Target.TheVariants as targets
-use Rattle.proof_kernel.specs.declared.step.Step.TheVariants.{Intro, Hyp, Split, Range, Lin, OnGoal, OnHypothesis, OnTwo, Rewrite, OnTerm}
+use Rattle.proof_kernel.specs.declared.step.Step.TheVariants.{Intro, Hyp, Split, Lin, OnGoal, OnHypothesis, OnTwo, Rewrite, OnTerm, Divide, Instantiate}
 use Rattle.proof_kernel.specs.Rules.{hypothesis, sort_of}
 
 abbrev pub labels_in : Reference → List Label2
@@ -28,26 +28,28 @@ abbrev pub labels_of : Step → List Label2
 labels_of (Intro names) = []
 labels_of (Hyp l) = l ∷ []
 labels_of Split = []
-labels_of (Range x) = []
 labels_of (Lin ms) = flat_map (λ m. labels_in m.of) ms
 labels_of (OnGoal r) = []
 labels_of (OnHypothesis r l) = l ∷ []
 labels_of (OnTwo r l m) = l ∷ m ∷ []
 labels_of (Rewrite r) = r.equation ∷ label_of_target r.target
 labels_of (OnTerm r t) = []
+labels_of (Divide t u) = []
+labels_of (Instantiate l ts) = l ∷ []
 
 -- the names that the step gives to variables of its premises
 abbrev pub new_names : Step → List Name
 new_names (Intro names) = names
 new_names (Hyp l) = []
 new_names Split = []
-new_names (Range x) = []
 new_names (Lin ms) = []
 new_names (OnGoal r) = []
 new_names (OnHypothesis r l) = []
 new_names (OnTwo r l m) = []
 new_names (Rewrite r) = []
 new_names (OnTerm r t) = []
+new_names (Divide t u) = []
+new_names (Instantiate l ts) = []
 
 -- ---- what is there, and what is added
 

@@ -10,17 +10,18 @@ ghost use Rattle.proof_kernel.specs.Steps.{labels_in, labels_of};
 
 use crate::goal_rules::goal_rule;
 use crate::hypothesis_rules::hypothesis_rule;
+use crate::instances::instance_rule;
 use crate::intro::intro;
 use crate::linear::{LinAnswer, certifies};
 use crate::pair_rules::pair_rule;
 use crate::rewrite_rules::rewrite_rule;
-use crate::rules::{is_hypothesis, one_premise, range, split};
+use crate::rules::{is_hypothesis, one_premise, split};
 use crate::sequent::Sequent;
 use crate::setting::{Scope, Tables};
 use crate::step::{
     GoalRule, HypothesisRule, Multiple, PairRule, Reference, Rewriting, Step, Target, TermRule,
 };
-use crate::term_rules::term_rule;
+use crate::term_rules::{division_rule, term_rule};
 use logic_term::{Label2, Obligation};
 use source_trees::Pterm;
 use std::alloc::Global;
@@ -122,8 +123,9 @@ fn cites_in_order(number: u32, step: &Step) -> bool
             is_label_above(number, *first) && is_label_above(number, *second)
         }
         Step::Rewrite(rewriting) => is_rewriting_in_order(number, *rewriting),
-        Step::Intro(_) | Step::Split | Step::Range(_) | Step::OnGoal(_) | Step::OnTerm(_, _) =>
-            true,
+        Step::Instantiate(label, _) => is_label_above(number, *label),
+        Step::Intro(_) | Step::Split | Step::OnGoal(_) => true,
+        Step::OnTerm(_, _) | Step::Divide(_, _) => true,
     }
 }
 
@@ -177,24 +179,6 @@ fn by_split(alloc: Global, scope: &Scope<'_>, number: u32, q: &Sequent) -> Resul
     match split(alloc, q)? {
         None => Ok(Made::Nothing),
         Some(premises) => Ok(Made::Premises(premises)),
-    }
-}
-
-fn by_range(
-    alloc: Global,
-    scope: &Scope<'_>,
-    number: u32,
-    name: Name,
-    q: &Sequent,
-) -> Result<Made, NoMemory>
-    ensures { IfOk result (λ made. IsMade (setting scope.now) number q.now (kinds.Range name) made) }
-{
-    match range(alloc, number, name, q)? {
-        None => Ok(Made::Nothing),
-        Some(premise) => {
-            let premises = one_premise(alloc, premise)?;
-            Ok(Made::Premises(premises))
-        }
     }
 }
 
@@ -296,6 +280,38 @@ fn by_term(
     }
 }
 
+fn by_division(
+    alloc: Global,
+    scope: &Scope<'_>,
+    number: u32,
+    t: &Pterm,
+    u: &Pterm,
+    q: &Sequent,
+) -> Result<Made, NoMemory>
+    ensures { IfOk result (λ made. IsMade (setting scope.now) number q.now (kinds.Divide t.now u.now) made) }
+{
+    match division_rule(alloc, number, t, u, q)? {
+        None => Ok(Made::Nothing),
+        Some(premises) => Ok(Made::Premises(premises)),
+    }
+}
+
+fn by_instance(
+    alloc: Global,
+    scope: &Scope<'_>,
+    number: u32,
+    label: Label2,
+    ts: &Items<Pterm>,
+    q: &Sequent,
+) -> Result<Made, NoMemory>
+    ensures { IfOk result (λ made. IsMade (setting scope.now) number q.now (kinds.Instantiate label ts.now) made) }
+{
+    match instance_rule(alloc, number, label, ts.as_slice(), q)? {
+        None => Ok(Made::Nothing),
+        Some(premises) => Ok(Made::Premises(premises)),
+    }
+}
+
 /// What the step with this number makes of the sequent.
 fn made_of(
     alloc: Global,
@@ -310,7 +326,6 @@ fn made_of(
         Step::Intro(names) => by_intro(alloc, scope, number, names, q),
         Step::Hyp(label) => by_hyp(alloc, scope, number, *label, q),
         Step::Split => by_split(alloc, scope, number, q),
-        Step::Range(name) => by_range(alloc, scope, number, *name, q),
         Step::Lin(multiples) => by_lin(alloc, scope, number, multiples, q),
         Step::OnGoal(rule) => by_goal(alloc, scope, number, *rule, q),
         Step::OnHypothesis(rule, label) => by_hypothesis(alloc, scope, number, *rule, *label, q),
@@ -319,6 +334,8 @@ fn made_of(
         }
         Step::Rewrite(rewriting) => by_rewriting(alloc, scope, number, *rewriting, q),
         Step::OnTerm(rule, t) => by_term(alloc, scope, number, *rule, t, q),
+        Step::Divide(t, u) => by_division(alloc, scope, number, t, u, q),
+        Step::Instantiate(label, ts) => by_instance(alloc, scope, number, *label, ts, q),
     }
 }
 

@@ -5,6 +5,7 @@ mod back_rule;
 mod exchange;
 mod goal_rules;
 mod hypothesis_rules;
+mod instances;
 mod intro;
 mod kernel;
 mod laws;

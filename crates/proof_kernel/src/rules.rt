@@ -1,16 +1,13 @@
-ghost use Rattle.std.specs.Prelude.{◌≡◌, ◌≢◌, ◌↔◌, ◌∷◌, ◌++◌, ◌+◌, [], Some, IfOk, MatchOption, IsTrue, map, true, false};
-ghost use Rattle.logic_term.specs.Ty.{int};
-ghost use Rattle.source_kinds.specs.declared.kinds.IntKind.{IntKind};
+ghost use Rattle.std.specs.Prelude.{◌≡◌, ◌↔◌, ◌∷◌, ◌+◌, [], Some, IfOk, MatchOption, IsTrue, map, true, false};
 ghost use Rattle.logic_term.specs.declared.kinds.Label2.{Label2};
 ghost use Rattle.logic_term.specs.Canonical.{SameUpToNames};
 ghost use Rattle.logic_term.specs.Term.{Term as Tree, is_conjunction};
-ghost use Rattle.proof_kernel.specs.Rules.{hypothesis, sort_of, same_up_to_names, with_hyps, closed_if, Finds, with_goal, conjuncts, lower_bound, upper_bound, ranged};
+ghost use Rattle.proof_kernel.specs.Rules.{hypothesis, same_up_to_names, with_hyps, closed_if, Finds, with_goal, conjuncts};
 
 use crate::sequent::Sequent;
-use logic_term::{Label2, Term, TyNode};
-use source_kinds::IntKind;
+use logic_term::{Label2, Term};
 use std::alloc::Global;
-use text_core::{Name, NoMemory};
+use text_core::NoMemory;
 
 // ---- terms and premises
 
@@ -144,56 +141,4 @@ pub fn split(alloc: Global, q: &Sequent) -> Result<Option<Vec<Sequent>>, NoMemor
     let goals = conjuncts_of(alloc, &goal)?;
     let premises = with_each_goal(alloc, q, goals.as_slice())?;
     Ok(Some(premises))
-}
-
-fn lower_bound_of(alloc: Global, kind: IntKind, name: Name) -> Result<Term, NoMemory>
-    ensures { IfOk result (λ t. t ≡ lower_bound kind name) }
-{
-    let variable = Term::var(alloc, name)?;
-    let model = Term::model(alloc, variable)?;
-    let lowest = Term::integer(alloc, kind.lowest())?;
-    Term::at_most(alloc, lowest, model)
-}
-
-fn upper_bound_of(alloc: Global, kind: IntKind, name: Name) -> Result<Term, NoMemory>
-    ensures { IfOk result (λ t. t ≡ upper_bound kind name) }
-{
-    let variable = Term::var(alloc, name)?;
-    let model = Term::model(alloc, variable)?;
-    let highest = Term::integer(alloc, kind.highest())?;
-    Term::at_most(alloc, model, highest)
-}
-
-fn with_bounds(
-    alloc: Global,
-    step: u32,
-    kind: IntKind,
-    name: Name,
-    q: &Sequent,
-) -> Result<Sequent, NoMemory>
-    ensures { IfOk result (λ p. p ≡ ranged step kind name q.now) }
-{
-    let lower = lower_bound_of(alloc, kind, name)?;
-    let upper = upper_bound_of(alloc, kind, name)?;
-    let q = q.share()?;
-    let q = q.assuming(alloc, Label2 { step, part: 1 }, lower)?;
-    q.assuming(alloc, Label2 { step, part: 2 }, upper)
-}
-
-/// The sequent with the bounds of the variable; `None` exactly where it is no variable of a machine type.
-pub fn range(alloc: Global, step: u32, name: Name, q: &Sequent) -> Result<Option<Sequent>, NoMemory>
-    ensures { IfOk result (λ o. MatchOption o
-        ((k : IntKind) → sort_of name q.now.vars ≢ Some (int k))
-        (λ p. (k : IntKind) × (sort_of name q.now.vars ≡ Some (int k)) × (p ≡ ranged step k name q.now))) }
-{
-    match q.sort_of(name) {
-        None => Ok(None),
-        Some(sort) => match &sort.node {
-            TyNode::Int(kind) => {
-                let p = with_bounds(alloc, step, *kind, name, q)?;
-                Ok(Some(p))
-            }
-            _ => Ok(None),
-        },
-    }
 }

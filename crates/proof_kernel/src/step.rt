@@ -74,6 +74,8 @@ pub enum TermRule {
     Cut,
     /// A formula is true, and then false.
     On,
+    /// The two bounds of a machine integer.
+    Range,
 }
 
 /// Which side of an equation is replaced by the other.
@@ -110,8 +112,6 @@ pub enum Step {
     Hyp(Label2),
     /// A premise for each conjunct of the goal.
     Split,
-    /// The two bounds of a variable of a machine type.
-    Range(Name),
     /// Linear arithmetic.
     Lin(Items<Multiple>),
     /// By the form of the goal.
@@ -124,4 +124,8 @@ pub enum Step {
     Rewrite(Rewriting),
     /// By a term.
     OnTerm(TermRule, Pterm),
+    /// What the division of the first term by the second says.
+    Divide(Pterm, Pterm),
+    /// Terms for the names that the hypothesis is quantified over.
+    Instantiate(Label2, Items<Pterm>),
 }

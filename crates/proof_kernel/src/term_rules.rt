@@ -1,14 +1,17 @@
-//! The rules by a term, which is elaborated at the sequent.
-ghost use Rattle.std.specs.Prelude.{◌≡◌, IfOk, Ok};
-ghost use Rattle.proof_kernel.specs.Rules.{Finds};
-ghost use Rattle.proof_kernel.specs.TermRules.{as_formula, formula_at, on_formula, term_rule};
+//! The rules by terms, which are elaborated at the sequent.
+ghost use Rattle.std.specs.Prelude.{◌≡◌, ◌∷◌, [], IfOk, map};
+ghost use Rattle.logic_term.specs.Normal.{reduced};
+ghost use Rattle.logic_term.specs.Term.{calculate};
+ghost use Rattle.proof_kernel.specs.Rules.{Finds, with_hyps};
+ghost use Rattle.proof_kernel.specs.TermRules.{assuming_all, bounds, bounds_at, by_term, division, division_of, division_rule, formula, number, number_if, shown_first, term_at, term_rule, true_or_false, divides_back, is_not_zero, remainder_near, remainder_near_negative, remainder_not_above, remainder_not_below, zero_term};
 ghost use Rattle.proof_kernel.specs.declared.step.TermRule.TheVariants as rules;
 
-use crate::rules::{two_premises, with_hypothesis};
+use crate::rules::{one_premise, two_premises, with_hypotheses, with_hypothesis};
 use crate::sequent::Sequent;
 use crate::step::TermRule;
 use logic_elab::{SortedTerm, Symbol, TermScope, elaborate};
 use logic_term::{Term, TyNode, reduce};
+use source_kinds::{ArithOp, IntKind};
 use source_trees::Pterm;
 use std::alloc::Global;
 use text_core::{Name, NoMemory, PassError};
@@ -39,8 +42,23 @@ impl<'a> TermScope for Variables<'a> {
     }
 }
 
-fn normal_formula(alloc: Global, t: SortedTerm) -> Result<Option<Term>, NoMemory>
-    ensures { IfOk result (λ o. o ≡ as_formula (Ok t)) }
+/// What the term is at the sequent; `None` exactly where it does not elaborate.
+pub(crate) fn term_at(alloc: Global, q: &Sequent, t: &Pterm) -> Result<Option<SortedTerm>, NoMemory>
+    ensures { IfOk result (λ o. o ≡ term_at q.now t.now) }
+{
+    let scope = Variables { sequent: q };
+    match elaborate(alloc, &scope, t) {
+        Ok(term) => Ok(Some(term)),
+        Err(PassError::Source(_)) => Ok(None),
+        Err(_) => Err(NoMemory),
+    }
+}
+
+// ---- one term
+
+/// The term in normal form, if it is a formula.
+fn formula(alloc: Global, t: SortedTerm) -> Result<Option<Term>, NoMemory>
+    ensures { IfOk result (λ o. o ≡ formula t) }
 {
     let SortedTerm { sort, term } = t;
     match &sort.node {
@@ -52,21 +70,9 @@ fn normal_formula(alloc: Global, t: SortedTerm) -> Result<Option<Term>, NoMemory
     }
 }
 
-/// The formula that the term is at the sequent; `None` where it does not elaborate, or is no formula.
-fn formula_at(alloc: Global, q: &Sequent, t: &Pterm) -> Result<Option<Term>, NoMemory>
-    ensures { IfOk result (λ o. o ≡ formula_at q.now t.now) }
-{
-    let scope = Variables { sequent: q };
-    match elaborate(alloc, &scope, t) {
-        Ok(term) => normal_formula(alloc, term),
-        Err(PassError::Source(_)) => Ok(None),
-        Err(_) => Err(NoMemory),
-    }
-}
-
 /// The formula as a goal, and then as a hypothesis.
 fn cut(alloc: Global, step: u32, q: &Sequent, formula: Term) -> Result<Vec<Sequent>, NoMemory>
-    ensures { IfOk result (λ v. v.items ≡ on_formula rules.Cut step q.now formula) }
+    ensures { IfOk result (λ v. v.items ≡ shown_first step q.now formula) }
 {
     let to_show = q.with_goal(formula.share()?)?;
     let shown = with_hypothesis(alloc, step, q, formula)?;
@@ -75,7 +81,7 @@ fn cut(alloc: Global, step: u32, q: &Sequent, formula: Term) -> Result<Vec<Seque
 
 /// The formula as a hypothesis, and then its denial.
 fn on_truth(alloc: Global, step: u32, q: &Sequent, formula: Term) -> Result<Vec<Sequent>, NoMemory>
-    ensures { IfOk result (λ v. v.items ≡ on_formula rules.On step q.now formula) }
+    ensures { IfOk result (λ v. v.items ≡ true_or_false step q.now formula) }
 {
     let holds = with_hypothesis(alloc, step, q, formula.share()?)?;
     let denial = Term::not(alloc, formula)?;
@@ -83,7 +89,87 @@ fn on_truth(alloc: Global, step: u32, q: &Sequent, formula: Term) -> Result<Vec<
     two_premises(alloc, holds, fails)
 }
 
-/// The premises of step `step`; `None` exactly where the term is no formula at the sequent.
+/// The formulas in normal form.
+fn all_reduced(alloc: Global, formulas: &[Term]) -> Result<Vec<Term>, NoMemory>
+    ensures { IfOk result (λ v. v.items ≡ map reduced formulas.now) }
+{
+    let mut all = Vec::with_capacity(alloc, formulas.len())?;
+    for i in 0..formulas.len() {
+        let formula = reduce(alloc, &formulas[i])?;
+        all.push(formula)?;
+    }
+    Ok(all)
+}
+
+/// The sequent with the formulas, in normal form, as the hypotheses of the step.
+pub(crate) fn assuming_all(
+    alloc: Global,
+    step: u32,
+    q: &Sequent,
+    formulas: &[Term],
+) -> Result<Vec<Sequent>, NoMemory>
+    ensures { IfOk result (λ v. v.items ≡ with_hyps step q.now (map reduced formulas.now) ∷ []) }
+{
+    let formulas = all_reduced(alloc, formulas)?;
+    let premise = with_hypotheses(alloc, step, q, formulas.as_slice())?;
+    one_premise(alloc, premise)
+}
+
+/// The bounds of a machine integer.
+fn bounds(alloc: Global, kind: IntKind, t: Term) -> Result<Vec<Term>, NoMemory>
+    ensures { IfOk result (λ v. v.items ≡ bounds kind t) }
+{
+    let model = Term::model(alloc, t)?;
+    let lowest = Term::integer(alloc, kind.lowest())?;
+    let highest = Term::integer(alloc, kind.highest())?;
+    let mut both = Vec::with_capacity(alloc, 2)?;
+    both.push(Term::at_most(alloc, lowest, model.share()?)?)?;
+    both.push(Term::at_most(alloc, model, highest)?)?;
+    Ok(both)
+}
+
+/// The bounds of the term; `None` exactly where it is no machine integer.
+fn range(
+    alloc: Global,
+    step: u32,
+    q: &Sequent,
+    t: SortedTerm,
+) -> Result<Option<Vec<Sequent>>, NoMemory>
+    ensures { IfOk result (λ o. Finds (assuming_all step q.now (bounds_at t.sort t.term)) o) }
+{
+    let SortedTerm { sort, term } = t;
+    match &sort.node {
+        TyNode::Int(kind) => {
+            let both = bounds(alloc, *kind, term.into_inner())?;
+            Ok(Some(assuming_all(alloc, step, q, both.as_slice())?))
+        }
+        _ => Ok(None),
+    }
+}
+
+fn by_term(
+    alloc: Global,
+    rule: TermRule,
+    step: u32,
+    q: &Sequent,
+    t: SortedTerm,
+) -> Result<Option<Vec<Sequent>>, NoMemory>
+    ensures { IfOk result (λ o. Finds (by_term rule step q.now t) o) }
+{
+    match rule {
+        TermRule::Cut => match formula(alloc, t)? {
+            None => Ok(None),
+            Some(formula) => Ok(Some(cut(alloc, step, q, formula)?)),
+        },
+        TermRule::On => match formula(alloc, t)? {
+            None => Ok(None),
+            Some(formula) => Ok(Some(on_truth(alloc, step, q, formula)?)),
+        },
+        TermRule::Range => range(alloc, step, q, t),
+    }
+}
+
+/// The premises of step `step`; `None` exactly where the term is nothing at the sequent that the rule takes.
 pub(crate) fn term_rule(
     alloc: Global,
     rule: TermRule,
@@ -93,12 +179,129 @@ pub(crate) fn term_rule(
 ) -> Result<Option<Vec<Sequent>>, NoMemory>
     ensures { IfOk result (λ o. Finds (term_rule rule step q.now t.now) o) }
 {
-    let Some(formula) = formula_at(alloc, q, t)? else {
+    match term_at(alloc, q, t)? {
+        None => Ok(None),
+        Some(term) => by_term(alloc, rule, step, q, term),
+    }
+}
+
+// ---- division
+
+fn zero(alloc: Global) -> Result<Term, NoMemory>
+    ensures { IfOk result (λ t. t ≡ zero_term) }
+{
+    Term::integer(alloc, 0)
+}
+
+fn is_not_zero(alloc: Global, b: &Term) -> Result<Term, NoMemory>
+    ensures { IfOk result (λ t. t ≡ is_not_zero b.now) }
+{
+    let is_zero = Term::equal(alloc, b.share()?, zero(alloc)?)?;
+    Term::not(alloc, is_zero)
+}
+
+fn operation(alloc: Global, op: ArithOp, a: &Term, b: &Term) -> Result<Term, NoMemory>
+    ensures { IfOk result (λ t. t ≡ calculate op a.now b.now) }
+{
+    Term::calculate(alloc, op, a.share()?, b.share()?)
+}
+
+fn divides_back(alloc: Global, a: &Term, b: &Term) -> Result<Term, NoMemory>
+    ensures { IfOk result (λ t. t ≡ divides_back a.now b.now) }
+{
+    let quotient = operation(alloc, ArithOp::Div, a, b)?;
+    let multiple = Term::calculate(alloc, ArithOp::Mul, b.share()?, quotient)?;
+    let remainder = operation(alloc, ArithOp::Rem, a, b)?;
+    let sum = Term::calculate(alloc, ArithOp::Add, multiple, remainder)?;
+    let equation = Term::equal(alloc, a.share()?, sum)?;
+    Term::implies(alloc, is_not_zero(alloc, b)?, equation)
+}
+
+fn remainder_not_below(alloc: Global, a: &Term, b: &Term) -> Result<Term, NoMemory>
+    ensures { IfOk result (λ t. t ≡ remainder_not_below a.now b.now) }
+{
+    let not_below = Term::at_most(alloc, zero(alloc)?, a.share()?)?;
+    let premise = Term::and(alloc, not_below, is_not_zero(alloc, b)?)?;
+    let remainder = operation(alloc, ArithOp::Rem, a, b)?;
+    let bound = Term::at_most(alloc, zero(alloc)?, remainder)?;
+    Term::implies(alloc, premise, bound)
+}
+
+fn remainder_not_above(alloc: Global, a: &Term, b: &Term) -> Result<Term, NoMemory>
+    ensures { IfOk result (λ t. t ≡ remainder_not_above a.now b.now) }
+{
+    let not_above = Term::at_most(alloc, a.share()?, zero(alloc)?)?;
+    let premise = Term::and(alloc, not_above, is_not_zero(alloc, b)?)?;
+    let remainder = operation(alloc, ArithOp::Rem, a, b)?;
+    let bound = Term::at_most(alloc, remainder, zero(alloc)?)?;
+    Term::implies(alloc, premise, bound)
+}
+
+fn remainder_near(alloc: Global, a: &Term, b: &Term) -> Result<Term, NoMemory>
+    ensures { IfOk result (λ t. t ≡ remainder_near a.now b.now) }
+{
+    let premise = Term::less(alloc, zero(alloc)?, b.share()?)?;
+    let remainder = operation(alloc, ArithOp::Rem, a, b)?;
+    let negative = Term::negative(alloc, b.share()?)?;
+    let above = Term::less(alloc, negative, remainder.share()?)?;
+    let below = Term::less(alloc, remainder, b.share()?)?;
+    Term::implies(alloc, premise, Term::and(alloc, above, below)?)
+}
+
+fn remainder_near_negative(alloc: Global, a: &Term, b: &Term) -> Result<Term, NoMemory>
+    ensures { IfOk result (λ t. t ≡ remainder_near_negative a.now b.now) }
+{
+    let premise = Term::less(alloc, b.share()?, zero(alloc)?)?;
+    let remainder = operation(alloc, ArithOp::Rem, a, b)?;
+    let negative = Term::negative(alloc, b.share()?)?;
+    let above = Term::less(alloc, b.share()?, remainder.share()?)?;
+    let below = Term::less(alloc, remainder, negative)?;
+    Term::implies(alloc, premise, Term::and(alloc, above, below)?)
+}
+
+/// What the division of a by b says.
+fn division(alloc: Global, a: &Term, b: &Term) -> Result<Vec<Term>, NoMemory>
+    ensures { IfOk result (λ v. v.items ≡ division a.now b.now) }
+{
+    let mut all = Vec::with_capacity(alloc, 5)?;
+    all.push(divides_back(alloc, a, b)?)?;
+    all.push(remainder_not_below(alloc, a, b)?)?;
+    all.push(remainder_not_above(alloc, a, b)?)?;
+    all.push(remainder_near(alloc, a, b)?)?;
+    all.push(remainder_near_negative(alloc, a, b)?)?;
+    Ok(all)
+}
+
+/// The term, if it is an unbounded integer at the sequent.
+fn number_at(alloc: Global, q: &Sequent, t: &Pterm) -> Result<Option<Term>, NoMemory>
+    ensures { IfOk result (λ o. o ≡ number_if (term_at q.now t.now)) }
+{
+    let Some(term) = term_at(alloc, q, t)? else {
         return Ok(None);
     };
-    let premises = match rule {
-        TermRule::Cut => cut(alloc, step, q, formula),
-        TermRule::On => on_truth(alloc, step, q, formula),
-    }?;
-    Ok(Some(premises))
+    let SortedTerm { sort, term } = term;
+    match &sort.node {
+        TyNode::MathInt => Ok(Some(term.into_inner())),
+        _ => Ok(None),
+    }
+}
+
+/// The premise of step `step` by two terms; `None` exactly where one of them is no unbounded integer at the sequent.
+pub(crate) fn division_rule(
+    alloc: Global,
+    step: u32,
+    t: &Pterm,
+    u: &Pterm,
+    q: &Sequent,
+) -> Result<Option<Vec<Sequent>>, NoMemory>
+    ensures { IfOk result (λ o. Finds (division_rule step q.now t.now u.now) o) }
+{
+    let Some(a) = number_at(alloc, q, t)? else {
+        return Ok(None);
+    };
+    let Some(b) = number_at(alloc, q, u)? else {
+        return Ok(None);
+    };
+    let formulas = division(alloc, &a, &b)?;
+    Ok(Some(assuming_all(alloc, step, q, formulas.as_slice())?))
 }

@@ -13,3 +13,4 @@ pub mod StageLemmas
 pub mod StepLaw
 pub mod StepLemmas
 pub mod TermLines
+pub mod TwoTerms

@@ -2,6 +2,8 @@
 use Rattle.std.proofs.Common.{◌≡◌, ℕ, ◌+◌, ◌<◌, ◌≤◌, Bool, true, false, List, [], ◌∷◌, ◌++◌, length, map, take, get_or, codes, Option, Some, None, Result, Ok, Err, subst, refl, sym, ◌∙◌, ap, append_assoc, Bor, ◌||◌, ◌==◌, true≢false}
 use Rattle.std.specs.Prelude.{OnOk}
 use Rattle.std.specs.List.{slice_split}
+use Rattle.std.specs.Option.{option_map}
+use Rattle.logic_term.specs.declared.kinds.Label2.{Label2}
 use Rattle.std.specs.Str.{bytes_eq}
 use Rattle.std.proofs.Math.Dec.{eqb}
 use Rattle.std.proofs.lemmas.List.{take_all, take_more, map-append, append-nil}
@@ -11,10 +13,13 @@ use Rattle.name_tables.proofs.Tables.{names_append as tables_append}
 use Rattle.proof_text.specs.declared.proof.ProofFile.{ProofFile}
 use Rattle.proof_text.specs.declared.fault.ProofTextError.{ProofTextError}
 use Rattle.proof_kernel.specs.declared.step.TermRule.{TermRule}
+use Rattle.proof_text.specs.declared.rule_words.TermLine.{TermLine}
+use Rattle.proof_text.specs.declared.rule_words.TermLine.TheVariants.{Rule, Division, Instance}
 use Rattle.source_words.specs.Words.{GivesNames, identifiers_in}
-use Rattle.proof_text.specs.ProofTextRules.{term_rule_of}
+use Rattle.proof_text.specs.ProofTextRules.{term_line_of}
 use Rattle.proof_text.specs.ProofTextReads.{GivesTexts}
-use Rattle.proof_text.specs.ProofTextLines.{rest_of, texts_by, NamesByRule, NamesOfParts, NamesTexts, IsHeading, IsEnd}
+use Rattle.proof_text.specs.ProofTextWords.{two_texts, label_and_text}
+use Rattle.proof_text.specs.ProofTextLines.{rest_of, texts_by, term_behind, NamesInTerm, NamesInTwo, NamesByLine, NamesOfParts, NamesTexts, IsHeading, IsEnd}
 use Rattle.proof_text.specs.ProofTextFile.{is_passed}
 use Rattle.proof_text.specs.ProofFileForm.{IsComment, LinesName, HasNamesOf}
 use Rattle.proof_text.proofs.LineLaw.{more_before, not_empty, hash_is}
@@ -34,11 +39,11 @@ one_more_named old before new texts i d h so_far more =
 
 -- the first and the last line of a proof name nothing
 pub proof_names : (rest : Option (List ℕ)) → NamesOfParts (codes "proof") rest []
-unfolding NamesOfParts texts_by term_rule_of
+unfolding NamesOfParts texts_by term_line_of
 proof_names rest = refl
 
 pub end_names : (rest : Option (List ℕ)) → NamesOfParts (codes "end") rest []
-unfolding NamesOfParts texts_by term_rule_of
+unfolding NamesOfParts texts_by term_line_of
 end_names rest = refl
 
 pub none_by : (head word : List ℕ) (rest : Option (List ℕ)) → bytes_eq head word ≡ true → NamesOfParts word rest [] → NamesOfParts head rest []
@@ -48,20 +53,20 @@ pub heading_names : (text : List ℕ) (number : ℕ) (owner : List ℕ) → IsHe
 heading_names text number owner h = subst (λ (w : List ℕ). NamesOfParts w (rest_of text) []) (sym h.1) (proof_names (rest_of text))
 
 pub end_line_names : (text : List ℕ) → IsEnd text → NamesTexts text []
-unfolding NamesOfParts texts_by term_rule_of
+unfolding NamesOfParts texts_by term_line_of
 end_line_names text h = subst (λ (t : List ℕ). NamesTexts t []) (sym h) refl
 
 pub header_names : (text : List ℕ) → bytes_eq text (codes "creusot-proofs 1") ≡ true → NamesTexts text []
-unfolding NamesOfParts texts_by term_rule_of
+unfolding NamesOfParts texts_by term_line_of
 header_names text e = subst (λ (t : List ℕ). NamesTexts t []) (sym ((bytes_eq-Decides text (codes "creusot-proofs 1")).0 e)) refl
 
 hash_names : (b : ℕ) (bs : List ℕ) → b ≡ 35 → NamesTexts (b ∷ bs) []
-unfolding NamesOfParts texts_by term_rule_of
+unfolding NamesOfParts texts_by term_line_of
 hash_names b bs e =
     subst (λ (c : ℕ). NamesTexts (c ∷ bs) []) (sym e) (subst (λ (h : List ℕ). NamesOfParts h (rest_of (35 ∷ bs)) []) (sym (more_before 35 bs refl)) refl)
 
 pub comment_names : (text : List ℕ) → IsComment text → NamesTexts text []
-unfolding NamesOfParts texts_by term_rule_of
+unfolding NamesOfParts texts_by term_line_of
 comment_names [] h = refl
 comment_names (b ∷ bs) h = hash_names b bs h
 
@@ -89,16 +94,40 @@ pub gives_none : (Names : List (List ℕ) → Type 0) (old : List (List ℕ)) �
 gives_none Names old h = ([], h, refl)
 
 -- the texts of the rule and of none are those of the line
-pub gives_plain : (head : List ℕ) (rest : Option (List ℕ)) (old new : List (List ℕ)) → None ≡ term_rule_of head → new ≡ with_names old (texts_by head rest) → GivesTexts (NamesOfParts head rest) old new
+pub gives_plain : (head : List ℕ) (rest : Option (List ℕ)) (old new : List (List ℕ)) → None ≡ term_line_of head → new ≡ with_names old (texts_by head rest) → GivesTexts (NamesOfParts head rest) old new
 unfolding NamesOfParts
-gives_plain head rest old new e h = (texts_by head rest, subst (λ o. NamesByRule o head rest (texts_by head rest)) e refl, h)
+gives_plain head rest old new e h = (texts_by head rest, subst (λ o. NamesByLine o head rest (texts_by head rest)) e refl, h)
 
-pub gives_term : (head rest : List ℕ) (own : Option (List ℕ)) (rule : TermRule) (old new : List (List ℕ)) → Some rule ≡ term_rule_of head → own ≡ Some rest → GivesNames old rest new → GivesTexts (NamesOfParts head own) old new
+pub gives_term : (head rest : List ℕ) (own : Option (List ℕ)) (rule : TermRule) (old new : List (List ℕ)) → Some (Rule rule) ≡ term_line_of head → own ≡ Some rest → GivesNames old rest new → GivesTexts (NamesOfParts head own) old new
 unfolding NamesOfParts
 gives_term head rest own rule old new e is g =
     let texts : List (List ℕ) = identifiers_in rest g.tokens in
-    let names : NamesByRule (Some rule) head (Some rest) texts = record { tokens = g.tokens; are_tokens = g.are_tokens; are = refl } in
-    (texts, subst (λ r. NamesByRule (term_rule_of head) head r texts) (sym is) (subst (λ o. NamesByRule o head (Some rest) texts) e names), g.is)
+    let names : NamesByLine (Some (Rule rule)) head (Some rest) texts = record { tokens = g.tokens; are_tokens = g.are_tokens; are = refl } in
+    (texts, subst (λ r. NamesByLine (term_line_of head) head r texts) (sym is) (subst (λ o. NamesByLine o head (Some rest) texts) e names), g.is)
+
+pub gives_two : (head rest : List ℕ) (own : Option (List ℕ)) (old new : List (List ℕ)) → Some Division ≡ term_line_of head → own ≡ Some rest → GivesTexts (NamesInTwo (two_texts rest)) old new → GivesTexts (NamesOfParts head own) old new
+unfolding NamesOfParts
+gives_two head rest own old new e is g = (g.0, subst (λ r. NamesByLine (term_line_of head) head r g.0) (sym is) (subst (λ o. NamesByLine o head (Some rest) g.0) e g.1), g.2)
+
+pub gives_instance : (head rest : List ℕ) (own : Option (List ℕ)) (old new : List (List ℕ)) → Some Instance ≡ term_line_of head → own ≡ Some rest → GivesTexts (NamesInTerm (term_behind (Some rest))) old new → GivesTexts (NamesOfParts head own) old new
+unfolding NamesOfParts
+gives_instance head rest own old new e is g = (g.0, subst (λ r. NamesByLine (term_line_of head) head r g.0) (sym is) (subst (λ o. NamesByLine o head (Some rest) g.0) e g.1), g.2)
+
+-- what the term behind a label names
+pub gives_behind : (old new : List (List ℕ)) (rest : List ℕ) (parts : Label2 × List ℕ) → label_and_text rest ≡ Some parts → GivesNames old parts.1 new → GivesTexts (NamesInTerm (term_behind (Some rest))) old new
+gives_behind old new rest parts e g =
+    let texts : List (List ℕ) = identifiers_in parts.1 g.tokens in
+    let names : NamesInTerm (Some parts.1) texts = record { tokens = g.tokens; are_tokens = g.are_tokens; are = refl } in
+    (texts, subst (λ (o : Option (Label2 × List ℕ)). NamesInTerm (option_map (λ (p : Label2 × List ℕ). p.1) o) texts) (sym e) names, g.is)
+
+-- what two terms name, one behind the other
+pub gives_both : (old mid new : List (List ℕ)) (rest : List ℕ) (texts : List ℕ × List ℕ) → two_texts rest ≡ Some texts → GivesNames old texts.0 mid → GivesNames mid texts.1 new → GivesTexts (NamesInTwo (two_texts rest)) old new
+gives_both old mid new rest texts e g h =
+    let first : List (List ℕ) = identifiers_in texts.0 g.tokens in
+    let second : List (List ℕ) = identifiers_in texts.1 h.tokens in
+    let names : NamesInTwo (Some texts) (first ++ second) =
+    (first, second, record { tokens = g.tokens; are_tokens = g.are_tokens; are = refl }, record { tokens = h.tokens; are_tokens = h.are_tokens; are = refl }, refl) in
+    (first ++ second, subst (λ o. NamesInTwo o (first ++ second)) (sym e) names, h.is ∙ (ap (λ (ts : List (List ℕ)). with_names ts second) g.is ∙ sym (tables_append old first second)))
 
 pub names_append : (xs ys a b : List (List ℕ)) → LinesName xs a → LinesName ys b → LinesName (xs ++ ys) (a ++ b)
 names_append [] ys a b h k = subst (λ (ts : List (List ℕ)). LinesName ys (ts ++ b)) (sym h) k

@@ -1,5 +1,5 @@
 -- Numerals, what `parse` answers for them, and where a word is cut.
-use Rattle.std.proofs.Common.{◌≡◌, ℕ, ℤ, pos, ◌+◌, ◌^◌, ◌<◌, ◌≤◌, List, [], ◌∷◌, length, drop, Bool, true, false, ◌&&◌, Option, None, Some, Result, Ok, Err, cond, get_or, refl, sym, ◌∙◌, ap, arith, rules, nat_eq, nat_lt, Bor, ◌≢◌}
+use Rattle.std.proofs.Common.{◌≡◌, ℕ, ℤ, pos, ◌+◌, ◌^◌, ◌<◌, ◌≤◌, List, [], ◌∷◌, ◌++◌, length, drop, Bool, true, false, ◌&&◌, Option, None, Some, Result, Ok, Err, cond, get_or, refl, sym, ◌∙◌, ap, subst, arith, rules, nat_eq, nat_lt, Bor, ◌≢◌}
 use Rattle.std.specs.Prelude.{neg_ℤ, unwrap_or}
 use Rattle.std.specs.Int.{w128}
 use Rattle.std.specs.Char.{is_ascii_digit}
@@ -10,7 +10,7 @@ use Rattle.std.specs.Str.Parse.{digits_value, ParsesUnsigned, ParsesSigned}
 use Rattle.std.proofs.lemmas.Bool.{lt-ltb, ltb-true, le-ltb}
 use Rattle.std.proofs.lemmas.Bool.Decides.{nat_tests}
 use Rattle.std.proofs.lemmas.Str.Parse.{IsNumeralModel, IsDigitsTest, numerals_by_value, parse_digits, parse_signed_minus, parse_signed_plain, not_in_digits}
-use Rattle.proof_text.specs.ProofTextWords.{is_numeral, numeral_below, number_of, multiplier_of, after_minus, cut}
+use Rattle.proof_text.specs.ProofTextWords.{is_numeral, numeral_below, number_of, multiplier_of, after_minus, before_space, behind_space, cut}
 
 abbrev pub AreDigits : List ℕ → Type 0
 AreDigits ds = list_all is_ascii_digit ds ≡ true
@@ -126,3 +126,40 @@ no_minus (x ∷ xs) h = false_from (nat_eq x 45) (λ t. h xs (ap (λ y. y ∷ xs
 pub minus_is : (bs : List ℕ) (r : Option (Bor (List ℕ))) → MatchOption r ((rest : List ℕ) → bs ≢ 45 ∷ rest) (λ x. bs ≡ 45 ∷ x.now) → option_copied r ≡ after_minus bs
 minus_is bs None h = sym (without_minus bs (no_minus bs h))
 minus_is bs (Some x) h = rw h refl
+
+-- ---- spaces at the ends
+
+with_space : (front : List ℕ) → before_space (front ++ 32 ∷ []) ≡ Some front
+with_space [] = refl
+with_space (b ∷ []) = refl
+with_space (b ∷ c ∷ bs) = ap (option_map (λ (front : List ℕ). b ∷ front)) (with_space (c ∷ bs))
+
+pub space_there : (bs front : List ℕ) → before_space bs ≡ Some front → bs ≡ front ++ 32 ∷ []
+space_there [] front e = absurd (cc)
+space_there (b ∷ []) front e = at (nat_eq b 32) refl e
+  where
+    at : (t : Bool) → nat_eq b 32 ≡ t → cond t (Some []) None ≡ Some front → b ∷ [] ≡ front ++ 32 ∷ []
+    at true is f = let empty : [] ≡ front = cc in subst (λ (fs : List ℕ). b ∷ [] ≡ fs ++ 32 ∷ []) empty (ap (λ (y : ℕ). y ∷ []) (grind (arith, nat_tests, is)))
+    at false is f = absurd (cc)
+space_there (b ∷ c ∷ bs) front e = at (before_space (c ∷ bs)) (λ fs is. space_there (c ∷ bs) fs is) e
+  where
+    at : (o : Option (List ℕ)) → ((fs : List ℕ) → o ≡ Some fs → c ∷ bs ≡ fs ++ 32 ∷ []) → option_map (λ (fs : List ℕ). b ∷ fs) o ≡ Some front → b ∷ c ∷ bs ≡ front ++ 32 ∷ []
+    at None there f = absurd (cc)
+    at (Some fs) there f = let same : b ∷ fs ≡ front = cc in subst (λ (gs : List ℕ). b ∷ c ∷ bs ≡ gs ++ 32 ∷ []) same (ap (λ (gs : List ℕ). b ∷ gs) (there fs refl))
+
+pub before_is : (bs : List ℕ) (r : Option (Bor (List ℕ))) → MatchOption r ((front : List ℕ) → bs ≢ front ++ 32 ∷ []) (λ x. bs ≡ x.now ++ 32 ∷ []) → option_copied r ≡ before_space bs
+before_is bs None h = at (before_space bs) refl
+  where
+    at : (o : Option (List ℕ)) → before_space bs ≡ o → None ≡ before_space bs
+    at None e = sym e
+    at (Some front) e = absurd (h front (space_there bs front e))
+before_is bs (Some x) h = sym (ap before_space h ∙ with_space x.now)
+
+pub behind_is : (bs : List ℕ) (r : Option (Bor (List ℕ))) → MatchOption r ((rest : List ℕ) → bs ≢ 32 ∷ rest) (λ x. bs ≡ 32 ∷ x.now) → option_copied r ≡ behind_space bs
+behind_is [] None h = refl
+behind_is (b ∷ bs) None h = at (nat_eq b 32) refl
+  where
+    at : (t : Bool) → nat_eq b 32 ≡ t → None ≡ cond t (Some bs) None
+    at true is = absurd (h bs (ap (λ (y : ℕ). y ∷ bs) (grind (arith, nat_tests, is))))
+    at false is = refl
+behind_is bs (Some x) h = sym (ap behind_space h)

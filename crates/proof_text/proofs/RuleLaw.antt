@@ -11,14 +11,15 @@ use Rattle.proof_kernel.specs.declared.step.HypothesisRule.{HypothesisRule}
 use Rattle.proof_kernel.specs.declared.step.HypothesisRule.TheVariants.{Cases}
 use Rattle.proof_kernel.specs.declared.step.PairRule.{PairRule}
 use Rattle.proof_kernel.specs.declared.step.PairRule.TheVariants.{ModusPonens}
-use Rattle.proof_kernel.specs.declared.step.TermRule.{TermRule}
-use Rattle.proof_kernel.specs.declared.step.TermRule.TheVariants.{Cut, On}
+use Rattle.proof_text.specs.declared.rule_words.TermLine.{TermLine}
+use Rattle.proof_text.specs.declared.rule_words.TermLine.TheVariants.{Rule, Division, Instance}
+use Rattle.proof_kernel.specs.declared.step.TermRule.TheVariants.{Cut, On, Range}
 use Rattle.proof_kernel.specs.declared.step.Step.{Step}
-use Rattle.proof_kernel.specs.declared.step.Step.TheVariants.{Intro, Hyp, Split, Range, Lin, OnGoal, OnHypothesis, OnTwo, Rewrite, OnTerm}
+use Rattle.proof_kernel.specs.declared.step.Step.TheVariants.{Intro, Hyp, Split, Lin, OnGoal, OnHypothesis, OnTwo, Rewrite, OnTerm, Divide, Instantiate}
 use Rattle.proof_text.specs.declared.fault.Fault.{Fault}
 use Rattle.proof_text.specs.declared.fault.Fault.TheVariants.{Bad}
 use Rattle.proof_text.specs.ProofTextWords.{◌>>=◌}
-use Rattle.proof_text.specs.ProofTextRules.{goal_word, hypothesis_word, pair_word, labels_in, rule_by, goal_rules, hypothesis_rules, pair_rules, goal_rule_of, hypothesis_rule_of, pair_rule_of, term_word, term_rules, term_rule_of}
+use Rattle.proof_text.specs.ProofTextRules.{goal_word, hypothesis_word, pair_word, labels_in, rule_by, goal_rules, hypothesis_rules, pair_rules, goal_rule_of, hypothesis_rule_of, pair_rule_of, term_word, line_word, term_lines, term_line_of}
 use Rattle.proof_text.specs.ProofTextLines.{word_of, SpellsRest, SpellsParts}
 use Rattle.proof_text.specs.ProofTextFile.{is_step, is_plain_step, step, line_if, line_by_head, at_labels, rule_step_of}
 use Rattle.proof_text.proofs.LineLaw.{is_plain}
@@ -74,17 +75,17 @@ IsRuleHead word =
     (is_plain word ≡ true) × ((rest : Option (List ℕ)) → line_by_head word rest ≡ line_if (is_step word rest) step) × ((rest : Option (List ℕ)) → is_step word rest ≡ is_some (rule_step_of word rest))
 
 pub goal_head : (rule : GoalRule) → IsRuleHead (goal_word rule)
-unfolding is_step is_plain_step term_rule_of line_by_head
+unfolding is_step is_plain_step term_line_of line_by_head
 goal_head Refl = (refl, λ rest. refl, λ rest. refl)
 goal_head _ = (refl, λ rest. refl, λ rest. refl)
 
 pub hypothesis_head : (rule : HypothesisRule) → IsRuleHead (hypothesis_word rule)
-unfolding is_step is_plain_step term_rule_of line_by_head
+unfolding is_step is_plain_step term_line_of line_by_head
 hypothesis_head Cases = (refl, λ rest. refl, λ rest. refl)
 hypothesis_head _ = (refl, λ rest. refl, λ rest. refl)
 
 pub pair_head : (rule : PairRule) → IsRuleHead (pair_word rule)
-unfolding is_step is_plain_step term_rule_of line_by_head
+unfolding is_step is_plain_step term_line_of line_by_head
 pair_head ModusPonens = (refl, λ rest. refl, λ rest. refl)
 pair_head _ = (refl, λ rest. refl, λ rest. refl)
 
@@ -103,14 +104,17 @@ unfolding pair_rule_of
 pair_found ModusPonens = refl
 pair_found _ = refl
 
-pub term_found : (rule : TermRule) → term_rule_of (term_word rule) ≡ Some rule
-unfolding term_rule_of
-term_found Cut = refl
-term_found On = refl
+pub term_found : (line : TermLine) → term_line_of (line_word line) ≡ Some line
+unfolding term_line_of
+term_found (Rule Cut) = refl
+term_found (Rule On) = refl
+term_found (Rule Range) = refl
+term_found Division = refl
+term_found Instance = refl
 
-pub term_spelled : (head : List ℕ) (rule : TermRule) → term_rule_of head ≡ Some rule → head ≡ term_word rule
-unfolding term_rule_of
-term_spelled head rule e = rule_spelled term_word term_rules head rule e
+pub term_spelled : (head : List ℕ) (line : TermLine) → term_line_of head ≡ Some line → head ≡ line_word line
+unfolding term_line_of
+term_spelled head line e = rule_spelled line_word term_lines head line e
 
 -- ---- a line has one step of a rule, or none
 
@@ -132,10 +136,11 @@ abbrev pub rule_part : Step → Option Step
 rule_part (Intro names) = None
 rule_part (Hyp label) = None
 rule_part Split = None
-rule_part (Range name) = None
 rule_part (Lin multiples) = None
 rule_part (Rewrite rewriting) = None
 rule_part (OnTerm rule t) = None
+rule_part (Divide t u) = None
+rule_part (Instantiate label ts) = None
 rule_part rule = Some rule
 
 pub rule_read : (table : List (List ℕ)) (rest : Option (List ℕ)) (s : Step) → SpellsRest table rest s → rule_step_of (word_of s) rest ≡ rule_part s
@@ -148,4 +153,5 @@ rule_read table (Some rest) (OnHypothesis rule label) h =
 rule_read table (Some rest) (OnTwo rule label other) h = ap (λ found. found >>= (λ labels. at_labels (pair_word rule) labels.0 labels.1)) h ∙ ap (option_map (λ r. OnTwo r label other)) (pair_found rule)
 rule_read table rest (OnTerm Cut t) h = no_rule (term_word Cut) refl refl refl rest
 rule_read table rest (OnTerm On t) h = no_rule (term_word On) refl refl refl rest
+rule_read table rest (OnTerm Range t) h = no_rule (term_word Range) refl refl refl rest
 rule_read table rest s h = no_rule (word_of s) refl refl refl rest

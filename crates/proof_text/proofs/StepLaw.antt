@@ -1,25 +1,29 @@
 -- What the line of a step spells, step by step.
-use Rattle.std.proofs.Common.{◌≡◌, ℕ, Bool, true, false, cond, ◌⊎◌, inl, inr, subst, List, [], ◌∷◌, ◌++◌, map, Option, Some, None, refl, sym, ◌∙◌, ap, codes}
+use Rattle.std.proofs.Common.{◌≡◌, ℕ, Bool, true, false, ◌&&◌, cond, ◌⊎◌, inl, inr, subst, List, [], ◌∷◌, ◌++◌, map, Option, Some, None, refl, sym, ◌∙◌, ap, ap₂, codes}
 use Rattle.std.specs.Prelude.{is_some, is_none}
 use Rattle.std.specs.List.{list_all}
+use Rattle.std.specs.Option.{option_map}
 use Rattle.std.specs.Str.{bytes_eq, is_utf8}
 use Rattle.std.proofs.lemmas.Slice.Eq.{bytes_eq-Decides}
 use Rattle.proof_kernel.specs.declared.step.Step.{Step}
 use Rattle.proof_kernel.specs.declared.step.TermRule.{TermRule}
-use Rattle.proof_kernel.specs.declared.step.TermRule.TheVariants.{Cut, On}
-use Rattle.proof_kernel.specs.declared.step.Step.TheVariants.{Intro, Hyp, Split, Range, Lin, OnGoal, OnHypothesis, OnTwo, Rewrite, OnTerm}
+use Rattle.proof_kernel.specs.declared.step.TermRule.TheVariants.{Cut, On, Range}
+use Rattle.proof_kernel.specs.declared.step.Step.TheVariants.{Intro, Hyp, Split, Lin, OnGoal, OnHypothesis, OnTwo, Rewrite, OnTerm, Divide, Instantiate}
+use Rattle.logic_term.specs.declared.kinds.Label2.{Label2}
 use Rattle.source_trees.specs.Pterm.{Pterm}
-use Rattle.term_texts.specs.TermTexts.{SpellsWholeTerm, IsTermText}
+use Rattle.term_texts.specs.TermTexts.{SpellsWholeTerm, IsTermText, NamesOfTerm}
 use Rattle.term_texts.proofs.TermChoice.{term_there}
 use Rattle.term_texts.proofs.TermLaw.{is_term_text, spelled_there, names_there as naming_there, one_naming, kept_term, one_term}
 pub use Rattle.term_texts.proofs.TermLaw.{AreNamed, KeepsTexts}
 use Rattle.text_core.specs.Names.{words, HaveOnePlace}
 use Rattle.text_core.specs.declared.name.Name.{Name}
 use Rattle.rs_tokens.specs.Tokens.{is_identifier}
-use Rattle.proof_text.specs.ProofTextWords.{◌>>=◌, label_of}
-use Rattle.proof_text.specs.ProofTextRules.{rewriting_in, term_word, term_rule_of}
-use Rattle.proof_text.specs.ProofTextLines.{head_of, rest_of, words_of, text_at, identifier_of, multiples_in, word_of, SpellsRest, SpellsParts, SpellsStep, as_word, texts_by, NamesInTerm, NamesByRule, NamesOfParts, NamesTexts}
-use Rattle.proof_text.specs.ProofTextFile.{is_plain_step, is_left, is_term, is_term_rest, is_step_by, is_step, step, line_if, line_by_head, line_of, rule_step_of}
+use Rattle.proof_text.specs.declared.rule_words.TermLine.{TermLine}
+use Rattle.proof_text.specs.declared.rule_words.TermLine.TheVariants.{Rule, Division, Instance}
+use Rattle.proof_text.specs.ProofTextWords.{◌>>=◌, Each, label_of, two_texts, label_and_text}
+use Rattle.proof_text.specs.ProofTextRules.{rewriting_in, term_word, line_word, term_line_of}
+use Rattle.proof_text.specs.ProofTextLines.{head_of, rest_of, words_of, text_at, multiples_in, word_of, SpellsRest, SpellsParts, SpellsStep, texts_by, term_behind, NamesInTerm, NamesInTwo, NamesByLine, NamesOfParts, NamesTexts}
+use Rattle.proof_text.specs.ProofTextFile.{is_plain_step, is_left, is_term, is_term_rest, are_terms, is_step_by, is_step, step, line_if, line_by_head, line_of, rule_step_of}
 use Rattle.proof_text.specs.ProofTextLaws.{AlikeStep}
 use Rattle.proof_text.proofs.LineLaw.{is_plain, text_line}
 use Rattle.proof_text.proofs.RuleLaw.{rule_there, goal_head, hypothesis_head, pair_head, term_found, term_spelled, rule_part, rule_read}
@@ -55,19 +59,35 @@ not_told text never = by (term_there text)
 term_rest : (table : List (List ℕ)) (rest : Option (List ℕ)) (rule : TermRule) (t : Pterm) → SpellsRest table rest (OnTerm rule t) → is_step (term_word rule) rest ≡ true
 unfolding is_step
 term_rest table rest rule t h =
-    ap (λ o. is_step_by o (term_word rule) rest) (term_found rule) ∙ (ap is_term_rest h.1 ∙ term_told h.0 (is_term_text table h.0 t h.2))
+    ap (λ o. is_step_by o (term_word rule) rest) (term_found (Rule rule)) ∙ (ap is_term_rest h.1 ∙ term_told h.0 (is_term_text table h.0 t h.2))
+
+both_told : (a b : List ℕ) → IsTermText a → IsTermText b → (is_term a && is_term b) ≡ true
+both_told a b p q = ap₂ (λ x y. x && y) (term_told a p) (term_told b q)
+
+two_rest : (table : List (List ℕ)) (rest : Option (List ℕ)) (t u : Pterm) → SpellsRest table rest (Divide t u) → is_step (codes "div") rest ≡ true
+unfolding is_step
+two_rest table rest t u h =
+    ap (λ o. is_step_by o (codes "div") rest) (term_found Division)
+    ∙ (ap are_terms h.1 ∙ both_told h.0.0 h.0.1 (is_term_text table h.0.0 t h.2) (is_term_text table h.0.1 u h.3))
+
+instance_rest : (table : List (List ℕ)) (rest : Option (List ℕ)) (l : Label2) (ts : List Pterm) → SpellsRest table rest (Instantiate l ts) → is_step (codes "inst") rest ≡ true
+unfolding is_step
+instance_rest table rest l ts h =
+    ap (λ o. is_step_by o (codes "inst") rest) (term_found Instance)
+    ∙ (ap (λ (o : Option (Label2 × List ℕ)). is_term_rest (option_map (λ (p : Label2 × List ℕ). p.1) o)) h.2 ∙ term_told h.0 (is_term_text table h.0 h.1 h.4))
 
 rest_is : (table : List (List ℕ)) (rest : Option (List ℕ)) (s : Step) → SpellsRest table rest s → is_step (word_of s) rest ≡ true
-unfolding is_step is_plain_step term_rule_of
+unfolding is_step is_plain_step term_line_of
 rest_is table rest (Intro names) h = h.0
 rest_is table rest (Hyp l) h = ap is_some h
 rest_is table rest Split h = ap is_none h
-rest_is table rest (Range x) h = rw (h.1, h.2) refl
 rest_is table rest (Lin ms) h = ap is_some h
 rest_is table rest (Rewrite r) h = ap is_some h
 rest_is table rest (OnGoal r) h = (goal_head r).2 rest ∙ ap is_some (rule_read table rest (OnGoal r) h)
 rest_is table rest (OnHypothesis r l) h = (hypothesis_head r).2 rest ∙ ap is_some (rule_read table rest (OnHypothesis r l) h)
 rest_is table rest (OnTerm r t) h = term_rest table rest r t h
+rest_is table rest (Divide t u) h = two_rest table rest t u h
+rest_is table rest (Instantiate l ts) h = instance_rest table rest l ts h
 rest_is table rest (OnTwo r l m) h = (pair_head r).2 rest ∙ ap is_some (rule_read table rest (OnTwo r l m) h)
 
 by_word : (s : Step) (rest : Option (List ℕ)) → line_by_head (word_of s) rest ≡ line_if (is_step (word_of s) rest) step
@@ -77,6 +97,7 @@ by_word (OnHypothesis r l) rest = (hypothesis_head r).1 rest
 by_word (OnTwo r l m) rest = (pair_head r).1 rest
 by_word (OnTerm Cut t) rest = refl
 by_word (OnTerm On t) rest = refl
+by_word (OnTerm Range t) rest = refl
 by_word _ rest = refl
 
 word_plain : (s : Step) → is_plain (word_of s) ≡ true
@@ -85,6 +106,7 @@ word_plain (OnHypothesis r l) = (hypothesis_head r).0
 word_plain (OnTwo r l m) = (pair_head r).0
 word_plain (OnTerm Cut t) = refl
 word_plain (OnTerm On t) = refl
+word_plain (OnTerm Range t) = refl
 word_plain _ = refl
 
 pub parts_are : (table : List (List ℕ)) (head : List ℕ) (rest : Option (List ℕ)) (s : Step) → SpellsParts table head rest s → is_step head rest ≡ true
@@ -113,55 +135,79 @@ none_of : {A : Type 0} (o : Option A) → is_none o ≡ true → o ≡ None
 none_of None e = refl
 none_of (Some x) e = absurd (cc)
 
-identifier_by : (word : List ℕ) (t : Bool) → is_identifier word ≡ t → is_some (cond t (Some word) None) ≡ true → is_identifier word ≡ true
-identifier_by word true is e = is
-identifier_by word false is e = absurd (cc)
-
-range_there : (table : List (List ℕ)) (rest : Option (List ℕ)) → is_some (rest >>= identifier_of) ≡ true → AreNamed table (as_word rest) → (name : Name) × SpellsRest table rest (Range name)
-range_there table None e h = absurd (cc)
-range_there table (Some word) e h = (h.0.0, (word, refl, identifier_by word (is_identifier word) refl e, h.0.1))
-
 same_head : (head word : List ℕ) → bytes_eq head word ≡ true → head ≡ word
 same_head head word e = (bytes_eq-Decides head word).0 e
 
 abbrev Spelled : List (List ℕ) → List ℕ → Option (List ℕ) → Type 0
 Spelled table head rest = (s : Step) × SpellsParts table head rest s
 
-by_words : (table : List (List ℕ)) (head : List ℕ) (rest : Option (List ℕ)) (a b c d e f : Bool) → bytes_eq head (codes "intro") ≡ a → bytes_eq head (codes "hyp") ≡ b → bytes_eq head (codes "split") ≡ c →
-    bytes_eq head (codes "range") ≡ d → bytes_eq head (codes "lin") ≡ e → bytes_eq head (codes "rewrite") ≡ f →
-    cond a (list_all is_identifier (words_of rest)) (cond b (is_some (rest >>= label_of)) (cond c (is_none rest) (cond d (is_some (rest >>= identifier_of)) (cond e (is_some (rest >>= multiples_in)) (cond f (is_some (rest >>= rewriting_in)) (is_some (rule_step_of head rest))))))) ≡ true →
-    AreNamed table (cond a (words_of rest) (cond b [] (cond c [] (cond d (as_word rest) [])))) → Spelled table head rest
-by_words table head rest true b c d e f p q r s t u is named =
+by_words : (table : List (List ℕ)) (head : List ℕ) (rest : Option (List ℕ)) (a b c d e : Bool) → bytes_eq head (codes "intro") ≡ a → bytes_eq head (codes "hyp") ≡ b → bytes_eq head (codes "split") ≡ c →
+    bytes_eq head (codes "lin") ≡ d → bytes_eq head (codes "rewrite") ≡ e →
+    cond a (list_all is_identifier (words_of rest)) (cond b (is_some (rest >>= label_of)) (cond c (is_none rest) (cond d (is_some (rest >>= multiples_in)) (cond e (is_some (rest >>= rewriting_in)) (is_some (rule_step_of head rest)))))) ≡ true →
+    AreNamed table (cond a (words_of rest) []) → Spelled table head rest
+by_words table head rest true b c d e p q r s t is named =
     let names = names_there table (words_of rest) named in (Intro names.0, (same_head head (codes "intro") p, (is, names.1)))
-by_words table head rest false true c d e f p q r s t u is named = let l = some_of (rest >>= label_of) is in (Hyp l.0, (same_head head (codes "hyp") q, l.1))
-by_words table head rest false false true d e f p q r s t u is named = (Split, (same_head head (codes "split") r, none_of rest is))
-by_words table head rest false false false true e f p q r s t u is named = let x = range_there table rest is named in (Range x.0, (same_head head (codes "range") s, x.1))
-by_words table head rest false false false false true f p q r s t u is named = let ms = some_of (rest >>= multiples_in) is in (Lin ms.0, (same_head head (codes "lin") t, ms.1))
-by_words table head rest false false false false false true p q r s t u is named = let found = some_of (rest >>= rewriting_in) is in (Rewrite found.0, (same_head head (codes "rewrite") u, found.1))
-by_words table head rest false false false false false false p q r s t u is named = let found = some_of (rule_step_of head rest) is in (found.0, rule_there table head found.0 rest found.1)
+by_words table head rest false true c d e p q r s t is named = let l = some_of (rest >>= label_of) is in (Hyp l.0, (same_head head (codes "hyp") q, l.1))
+by_words table head rest false false true d e p q r s t is named = (Split, (same_head head (codes "split") r, none_of rest is))
+by_words table head rest false false false true e p q r s t is named = let ms = some_of (rest >>= multiples_in) is in (Lin ms.0, (same_head head (codes "lin") s, ms.1))
+by_words table head rest false false false false true p q r s t is named = let found = some_of (rest >>= rewriting_in) is in (Rewrite found.0, (same_head head (codes "rewrite") t, found.1))
+by_words table head rest false false false false false p q r s t is named = let found = some_of (rule_step_of head rest) is in (found.0, rule_there table head found.0 rest found.1)
 
 plain_there : (table : List (List ℕ)) (head : List ℕ) (rest : Option (List ℕ)) → is_plain_step head rest ≡ true → AreNamed table (texts_by head rest) → Spelled table head rest
 unfolding is_plain_step texts_by
 plain_there table head rest is named =
-    by_words table head rest (bytes_eq head (codes "intro")) (bytes_eq head (codes "hyp")) (bytes_eq head (codes "split")) (bytes_eq head (codes "range")) (bytes_eq head (codes "lin")) (bytes_eq head (codes "rewrite"))
-    refl refl refl refl refl refl is named
+    by_words table head rest (bytes_eq head (codes "intro")) (bytes_eq head (codes "hyp")) (bytes_eq head (codes "split")) (bytes_eq head (codes "lin")) (bytes_eq head (codes "rewrite"))
+    refl refl refl refl refl is named
 
-term_line : (table : List (List ℕ)) (head : List ℕ) (rest : Option (List ℕ)) (rule : TermRule) (texts : List (List ℕ)) → term_rule_of head ≡ Some rule → is_term_rest rest ≡ true → NamesInTerm rest texts → AreNamed table texts →
+term_line : (table : List (List ℕ)) (head : List ℕ) (rest : Option (List ℕ)) (rule : TermRule) (texts : List (List ℕ)) → term_line_of head ≡ Some (Rule rule) → is_term_rest rest ≡ true → NamesInTerm rest texts → AreNamed table texts →
     Spelled table head rest
 term_line table head None rule texts e is names named = absurd (cc)
 term_line table head (Some text) rule texts e is names named =
     let term : IsTermText text = told_term text is in
     let t = spelled_there table text term (subst (AreNamed table) (one_naming text texts _ names (naming_there text term)) named) in
-    (OnTerm rule t.0, (term_spelled head rule e, (text, refl, t.1)))
+    (OnTerm rule t.0, (term_spelled head (Rule rule) e, (text, refl, t.1)))
 
-by_rule : (table : List (List ℕ)) (head : List ℕ) (rest : Option (List ℕ)) (texts : List (List ℕ)) (o : Option TermRule) → term_rule_of head ≡ o → is_step_by o head rest ≡ true → NamesByRule o head rest texts → AreNamed table texts →
+and_parts : (a b : Bool) → (a && b) ≡ true → (a ≡ true) × (b ≡ true)
+and_parts true b e = (refl, e)
+and_parts false b e = absurd (cc)
+
+named_parts : (table one other : List (List ℕ)) → AreNamed table (one ++ other) → AreNamed table one × AreNamed table other
+named_parts table [] other h = (tt, h)
+named_parts table (text ∷ one) other h = let rest = named_parts table one other h.1 in ((h.0, rest.0), rest.1)
+
+-- the term of a text whose names have names in the table
+term_here : (table : List (List ℕ)) (text : List ℕ) (texts : List (List ℕ)) → is_term text ≡ true → NamesOfTerm text texts → AreNamed table texts → (t : Pterm) × SpellsWholeTerm table text t
+term_here table text texts is names named =
+    let term : IsTermText text = told_term text is in
+    spelled_there table text term (subst (AreNamed table) (one_naming text texts _ names (naming_there text term)) named)
+
+two_line : (table : List (List ℕ)) (head : List ℕ) (rest : Option (List ℕ)) (o : Option (List ℕ × List ℕ)) (texts : List (List ℕ)) → (rest >>= two_texts) ≡ o → head ≡ codes "div" → are_terms o ≡ true → NamesInTwo o texts →
+    AreNamed table texts → Spelled table head rest
+two_line table head rest None texts e w is names named = absurd (cc)
+two_line table head rest (Some both) texts e w is names named =
+    let parts = and_parts (is_term both.0) (is_term both.1) is in
+    let have = named_parts table names.0 names.1 (subst (AreNamed table) names.4 named) in
+    let first = term_here table both.0 names.0 parts.0 names.2 have.0 in
+    let second = term_here table both.1 names.1 parts.1 names.3 have.1 in
+    (Divide first.0 second.0, (w, (both, e, first.1, second.1)))
+
+instance_line : (table : List (List ℕ)) (head : List ℕ) (rest : Option (List ℕ)) (o : Option (Label2 × List ℕ)) (texts : List (List ℕ)) → (rest >>= label_and_text) ≡ o → head ≡ codes "inst" →
+    is_term_rest (option_map (λ (p : Label2 × List ℕ). p.1) o) ≡ true → NamesInTerm (option_map (λ (p : Label2 × List ℕ). p.1) o) texts → AreNamed table texts → Spelled table head rest
+instance_line table head rest None texts e w is names named = absurd (cc)
+instance_line table head rest (Some parts) texts e w is names named =
+    let t = term_here table parts.1 texts is names named in
+    (Instantiate parts.0 (t.0 ∷ []), (w, (parts.1, t.0, e, refl, t.1)))
+
+by_line : (table : List (List ℕ)) (head : List ℕ) (rest : Option (List ℕ)) (texts : List (List ℕ)) (o : Option TermLine) → term_line_of head ≡ o → is_step_by o head rest ≡ true → NamesByLine o head rest texts → AreNamed table texts →
     Spelled table head rest
-by_rule table head rest texts None e is names named = plain_there table head rest is (subst (AreNamed table) names named)
-by_rule table head rest texts (Some rule) e is names named = term_line table head rest rule texts e is names named
+by_line table head rest texts None e is names named = plain_there table head rest is (subst (AreNamed table) names named)
+by_line table head rest texts (Some (Rule rule)) e is names named = term_line table head rest rule texts e is names named
+by_line table head rest texts (Some Division) e is names named = two_line table head rest (rest >>= two_texts) texts refl (term_spelled head Division e) is names named
+by_line table head rest texts (Some Instance) e is names named = instance_line table head rest (rest >>= label_and_text) texts refl (term_spelled head Instance e) is names named
 
 parts_there : (table : List (List ℕ)) (head : List ℕ) (rest : Option (List ℕ)) (texts : List (List ℕ)) → is_step head rest ≡ true → NamesOfParts head rest texts → AreNamed table texts → Spelled table head rest
 unfolding is_step NamesOfParts
-parts_there table head rest texts is names named = by_rule table head rest texts (term_rule_of head) refl is names named
+parts_there table head rest texts is names named = by_line table head rest texts (term_line_of head) refl is names named
 
 pub step_there : (table : List (List ℕ)) (text : List ℕ) (texts : List (List ℕ)) → is_utf8 text ≡ true → is_step (head_of text) (rest_of text) ≡ true → NamesTexts text texts → AreNamed table texts → (s : Step) × SpellsStep table text s
 step_there table text texts u is names named = let s = parts_there table (head_of text) (rest_of text) texts is names named in (s.0, (u, s.1))
@@ -172,26 +218,41 @@ term_names : (rest : Option (List ℕ)) → is_term_rest rest ≡ true → (text
 term_names None is = absurd (cc)
 term_names (Some text) is = let term : IsTermText text = told_term text is in (_, naming_there text term)
 
-names_by : (head : List ℕ) (rest : Option (List ℕ)) (o : Option TermRule) → is_step_by o head rest ≡ true → (texts : List (List ℕ)) × NamesByRule o head rest texts
+two_names : (o : Option (List ℕ × List ℕ)) → are_terms o ≡ true → (texts : List (List ℕ)) × NamesInTwo o texts
+two_names None is = absurd (cc)
+two_names (Some both) is =
+    let parts = and_parts (is_term both.0) (is_term both.1) is in
+    (_, (_, _, naming_there both.0 (told_term both.0 parts.0), naming_there both.1 (told_term both.1 parts.1), refl))
+
+names_by : (head : List ℕ) (rest : Option (List ℕ)) (o : Option TermLine) → is_step_by o head rest ≡ true → (texts : List (List ℕ)) × NamesByLine o head rest texts
 names_by head rest None is = (texts_by head rest, refl)
-names_by head rest (Some rule) is = term_names rest is
+names_by head rest (Some (Rule rule)) is = term_names rest is
+names_by head rest (Some Division) is = two_names (rest >>= two_texts) is
+names_by head rest (Some Instance) is = term_names (term_behind rest) is
 
 pub step_names : (text : List ℕ) → is_step (head_of text) (rest_of text) ≡ true → (texts : List (List ℕ)) × NamesTexts text texts
 unfolding is_step NamesOfParts
-step_names text is = names_by (head_of text) (rest_of text) (term_rule_of (head_of text)) is
+step_names text is = names_by (head_of text) (rest_of text) (term_line_of (head_of text)) is
 
 once_in_term : (rest : Option (List ℕ)) (one other : List (List ℕ)) → NamesInTerm rest one → NamesInTerm rest other → one ≡ other
 once_in_term None one other a b = a ∙ sym b
 once_in_term (Some text) one other a b = one_naming text one other a b
 
-once_by : (head : List ℕ) (rest : Option (List ℕ)) (o : Option TermRule) (one other : List (List ℕ)) → NamesByRule o head rest one → NamesByRule o head rest other → one ≡ other
+once_in_two : (o : Option (List ℕ × List ℕ)) (one other : List (List ℕ)) → NamesInTwo o one → NamesInTwo o other → one ≡ other
+once_in_two None one other a b = a ∙ sym b
+once_in_two (Some both) one other a b =
+    a.4 ∙ (ap₂ (λ (x y : List (List ℕ)). x ++ y) (one_naming both.0 a.0 b.0 a.2 b.2) (one_naming both.1 a.1 b.1 a.3 b.3) ∙ sym b.4)
+
+once_by : (head : List ℕ) (rest : Option (List ℕ)) (o : Option TermLine) (one other : List (List ℕ)) → NamesByLine o head rest one → NamesByLine o head rest other → one ≡ other
 once_by head rest None one other a b = a ∙ sym b
-once_by head rest (Some rule) one other a b = once_in_term rest one other a b
+once_by head rest (Some (Rule rule)) one other a b = once_in_term rest one other a b
+once_by head rest (Some Division) one other a b = once_in_two (rest >>= two_texts) one other a b
+once_by head rest (Some Instance) one other a b = once_in_term (term_behind rest) one other a b
 
 -- a line names one list of texts
 pub line_names_once : (text : List ℕ) (one other : List (List ℕ)) → NamesTexts text one → NamesTexts text other → one ≡ other
 unfolding NamesOfParts
-line_names_once text one other a b = once_by (head_of text) (rest_of text) (term_rule_of (head_of text)) one other a b
+line_names_once text one other a b = once_by (head_of text) (rest_of text) (term_line_of (head_of text)) one other a b
 
 -- ---- in a larger table the same step is spelled
 
@@ -208,14 +269,18 @@ module _ (old new : List (List ℕ)) (keeps : KeepsTexts old new) where
 
   kept_rest : (rest : Option (List ℕ)) (s : Step) → SpellsRest old rest s → SpellsRest new rest s
   kept_rest rest (Intro names) h = (h.0, kept_names names (words_of rest) h.1)
-  kept_rest rest (Range x) h = (h.0, h.1, h.2, keeps x.0 h.0 h.3)
   kept_rest rest (OnTerm r t) h = (h.0, h.1, kept_term old new keeps h.0 t h.2)
+  kept_rest rest (Divide t u) h = (h.0, h.1, kept_term old new keeps h.0.0 t h.2, kept_term old new keeps h.0.1 u h.3)
+  kept_rest rest (Instantiate l ts) h = (h.0, h.1, h.2, h.3, kept_term old new keeps h.0 h.1 h.4)
   kept_rest rest _ h = h
 
   pub kept_step : (text : List ℕ) (s : Step) → SpellsStep old text s → SpellsStep new text s
   kept_step text s h = (h.0, (h.1.0, kept_rest (rest_of text) s h.1.1))
 
 -- ---- a line spells one step
+
+same_pair : (p q : Label2 × List ℕ) → Some p ≡ Some q → p ≡ q
+same_pair p q e = cc
 
 module _ (table other : List (List ℕ)) (rest : Option (List ℕ)) where
   abbrev AlikeTerm : Pterm → Pterm → Type 0
@@ -227,11 +292,26 @@ module _ (table other : List (List ℕ)) (rest : Option (List ℕ)) where
       let text : k.0 ≡ h.0 = cc in
       (h.0, h.2, subst (λ (x : List ℕ). SpellsWholeTerm other x u) text k.2)
 
+  alike_two : (t u v w : Pterm) → SpellsRest table rest (Divide t u) → SpellsRest other rest (Divide v w) → AlikeTerm t v × AlikeTerm u w
+  alike_two t u v w h k =
+      let same : Some k.0 ≡ Some h.0 = sym k.1 ∙ h.1 in
+      let texts : k.0 ≡ h.0 = cc in (
+        (h.0.0, h.2, subst (λ (x : List ℕ × List ℕ). SpellsWholeTerm other x.0 v) texts k.2),
+        (h.0.1, h.3, subst (λ (x : List ℕ × List ℕ). SpellsWholeTerm other x.1 w) texts k.3),
+      )
+
+  alike_instance : (l m : Label2) (ts us : List Pterm) → SpellsRest table rest (Instantiate l ts) → SpellsRest other rest (Instantiate m us) → (l ≡ m) × Each AlikeTerm ts us
+  alike_instance l m ts us h k =
+      let pair : (l, h.0) ≡ (m, k.0) = same_pair (l, h.0) (m, k.0) (sym h.2 ∙ k.2) in
+      let label : l ≡ m = ap (λ (p : Label2 × List ℕ). p.0) pair in
+      let text : k.0 ≡ h.0 = sym (ap (λ (p : Label2 × List ℕ). p.1) pair) in
+      let term : AlikeTerm h.1 k.1 = (h.0, h.4, subst (λ (x : List ℕ). SpellsWholeTerm other x k.1) text k.4) in
+      (label, subst (λ (xs : List Pterm). Each AlikeTerm xs us) (sym h.3) (subst (λ (xs : List Pterm). Each AlikeTerm (h.1 ∷ []) xs) (sym k.3) (term, tt)))
+
   alike_rest : (s t : Step) → bytes_eq (word_of s) (word_of t) ≡ true → rule_part s ≡ rule_part t → SpellsRest table rest s → SpellsRest other rest t → AlikeStep table other s t
   alike_rest (Intro ms) (Intro ns) e r h k = h.1 ∙ sym k.1
   alike_rest (Hyp l) (Hyp m) e r h k = let same : Some l ≡ Some m = sym h ∙ k in cc
   alike_rest Split Split e r h k = tt
-  alike_rest (Range m) (Range n) e r h k = let same : Some h.0 ≡ Some k.0 = sym h.1 ∙ k.1 in h.3 ∙ same ∙ sym k.3
   alike_rest (Lin ms) (Lin ns) e r h k = let same : Some ms ≡ Some ns = sym h ∙ k in cc
   alike_rest (Rewrite a) (Rewrite b) e r h k = let same : Some a ≡ Some b = sym h ∙ k in cc
   alike_rest (OnGoal a) (OnGoal b) e r h k = cc
@@ -239,10 +319,15 @@ module _ (table other : List (List ℕ)) (rest : Option (List ℕ)) where
   alike_rest (OnTwo a l m) (OnTwo b n o) e r h k = (cc, cc, cc)
   alike_rest (OnTerm Cut t) (OnTerm Cut u) e r h k = (refl, alike_term Cut t u h k)
   alike_rest (OnTerm On t) (OnTerm On u) e r h k = (refl, alike_term On t u h k)
+  alike_rest (OnTerm Range t) (OnTerm Range u) e r h k = (refl, alike_term Range t u h k)
   alike_rest s (OnTerm Cut u) e r h k = absurd (cc)
   alike_rest s (OnTerm On u) e r h k = absurd (cc)
+  alike_rest s (OnTerm Range u) e r h k = absurd (cc)
   alike_rest (OnTerm Cut t) s e r h k = absurd (cc)
   alike_rest (OnTerm On t) s e r h k = absurd (cc)
+  alike_rest (OnTerm Range t) s e r h k = absurd (cc)
+  alike_rest (Divide t u) (Divide v w) e r h k = alike_two t u v w h k
+  alike_rest (Instantiate l ts) (Instantiate m us) e r h k = alike_instance l m ts us h k
   alike_rest _ _ e r h k = absurd (cc)
 
 pub alike_step : (table other : List (List ℕ)) (text : List ℕ) (s t : Step) → SpellsStep table text s → SpellsStep other text t → AlikeStep table other s t
@@ -275,9 +360,6 @@ module _ (table : List (List ℕ)) (place : HaveOnePlace (words ++ table)) where
   rest_once rest (Intro ms) (Intro ns) e h k = ap Intro (names_once ms ns (words_of rest) h.1 k.1)
   rest_once rest (Hyp l) (Hyp m) e h k = ap Hyp e
   rest_once rest Split Split e h k = refl
-  rest_once rest (Range m) (Range n) e h k =
-      let same : Some h.0 ≡ Some k.0 = sym h.1 ∙ k.1 in
-      ap Range (name_once m n k.0 (h.3 ∙ same) k.3)
   rest_once rest (Lin ms) (Lin ns) e h k = ap Lin e
   rest_once rest (OnGoal a) (OnGoal b) e h k = ap OnGoal e
   rest_once rest (Rewrite a) (Rewrite b) e h k = ap Rewrite e
@@ -286,6 +368,17 @@ module _ (table : List (List ℕ)) (place : HaveOnePlace (words ++ table)) where
   rest_once rest (OnTerm a t) (OnTerm b u) e h k =
       let rule : a ≡ b = e.0 in
       let term : t ≡ u = one_term table place e.1.0 t u e.1.1 e.1.2 in
+      cc
+  rest_once rest (Divide t u) (Divide v w) e h k =
+      let first : t ≡ v = one_term table place e.0.0 t v e.0.1 e.0.2 in
+      let second : u ≡ w = one_term table place e.1.0 u w e.1.1 e.1.2 in
+      cc
+  rest_once rest (Instantiate l ts) (Instantiate m us) e h k =
+      let pair : (l, h.0) ≡ (m, k.0) = same_pair (l, h.0) (m, k.0) (sym h.2 ∙ k.2) in
+      let label : l ≡ m = ap (λ (p : Label2 × List ℕ). p.0) pair in
+      let text : k.0 ≡ h.0 = sym (ap (λ (p : Label2 × List ℕ). p.1) pair) in
+      let term : h.1 ≡ k.1 = one_term table place h.0 h.1 k.1 h.4 (subst (λ (x : List ℕ). SpellsWholeTerm table x k.1) text k.4) in
+      let terms : ts ≡ us = h.3 ∙ (ap (λ (t : Pterm). t ∷ []) term ∙ sym k.3) in
       cc
   rest_once rest _ _ e h k = absurd e
 

@@ -11,11 +11,12 @@ use Rattle.proof_text.specs.declared.proof.Proof.{Proof}
 use Rattle.logic_term.specs.declared.kinds.Label2.{Label2}
 use Rattle.proof_kernel.specs.declared.step.Step.{Step}
 use Rattle.proof_kernel.specs.declared.step.Step.TheVariants.{OnGoal, OnHypothesis, OnTwo}
-use Rattle.proof_text.specs.ProofTextWords.{◌>>=◌, Each, label_of}
-use Rattle.proof_kernel.specs.declared.step.TermRule.{TermRule}
+use Rattle.proof_text.specs.ProofTextWords.{◌>>=◌, Each, label_of, two_texts}
+use Rattle.proof_text.specs.declared.rule_words.TermLine.{TermLine}
+use Rattle.proof_text.specs.declared.rule_words.TermLine.TheVariants.{Rule, Division, Instance}
 use Rattle.term_texts.proofs.TermChoice.{term_there}
-use Rattle.proof_text.specs.ProofTextRules.{labels_in, rewriting_in, goal_rule_of, hypothesis_rule_of, pair_rule_of, term_rule_of}
-use Rattle.proof_text.specs.ProofTextLines.{head_of, rest_of, words_of, identifier_of, multiples_in, heading_of, SpellsStep}
+use Rattle.proof_text.specs.ProofTextRules.{labels_in, rewriting_in, goal_rule_of, hypothesis_rule_of, pair_rule_of, term_line_of}
+use Rattle.proof_text.specs.ProofTextLines.{head_of, rest_of, words_of, multiples_in, heading_of, term_behind, SpellsStep}
 pub use Rattle.proof_text.specs.ProofFileForm.{SpellsProofs, HasNamesOf, IsFirstBadLine}
 
 -- ---- lines
@@ -36,7 +37,6 @@ is_plain_step head rest =
     if bytes_eq head (codes "intro") then list_all is_identifier (words_of rest)
     else if bytes_eq head (codes "hyp") then is_some (rest >>= label_of)
     else if bytes_eq head (codes "split") then is_none rest
-    else if bytes_eq head (codes "range") then is_some (rest >>= identifier_of)
     else if bytes_eq head (codes "lin") then is_some (rest >>= multiples_in)
     else if bytes_eq head (codes "rewrite") then is_some (rest >>= rewriting_in)
     else is_some (rule_step_of head rest)
@@ -53,13 +53,19 @@ abbrev pub is_term_rest : Option (List ℕ) → Bool
 is_term_rest None = false
 is_term_rest (Some rest) = is_term rest
 
--- some step has such a line, of the rule by a term or of none
-abbrev pub is_step_by : Option TermRule → List ℕ → Option (List ℕ) → Bool
+abbrev pub are_terms : Option (List ℕ × List ℕ) → Bool
+are_terms None = false
+are_terms (Some texts) = is_term texts.0 && is_term texts.1
+
+-- some step has such a line, of this kind of lines with terms or of none
+abbrev pub is_step_by : Option TermLine → List ℕ → Option (List ℕ) → Bool
 is_step_by None head rest = is_plain_step head rest
-is_step_by (Some rule) head rest = is_term_rest rest
+is_step_by (Some (Rule rule)) head rest = is_term_rest rest
+is_step_by (Some Division) head rest = are_terms (rest >>= two_texts)
+is_step_by (Some Instance) head rest = is_term_rest (term_behind rest)
 
 unfoldable pub is_step : List ℕ → Option (List ℕ) → Bool
-is_step head rest = is_step_by (term_rule_of head) head rest
+is_step head rest = is_step_by (term_line_of head) head rest
 
 -- a line after the first
 pub data Line : Type 0 where

@@ -2,7 +2,8 @@
 use Rattle.std.specs.Prelude.{◌≡◌, ◌⊎◌, ℕ, List, ◌++◌, map}
 use Rattle.text_core.specs.Names.{words, HaveOnePlace}
 use Rattle.proof_kernel.specs.declared.step.Step.{Step}
-use Rattle.proof_kernel.specs.declared.step.Step.TheVariants.{Intro, Hyp, Split, Range, Lin, OnGoal, OnHypothesis, OnTwo, Rewrite, OnTerm}
+use Rattle.proof_kernel.specs.declared.step.Step.TheVariants.{Intro, Hyp, Split, Lin, OnGoal, OnHypothesis, OnTwo, Rewrite, OnTerm, Divide, Instantiate}
+use Rattle.source_trees.specs.Pterm.{Pterm}
 use Rattle.proof_text.specs.declared.proof.NumberedStep.{NumberedStep}
 use Rattle.proof_text.specs.declared.proof.Proof.{Proof}
 use Rattle.proof_text.specs.declared.proof.ProofFile.{ProofFile}
@@ -18,13 +19,15 @@ abbrev pub AlikeStep : List (List ℕ) → List (List ℕ) → Step → Step →
 AlikeStep table other (Intro ms) (Intro ns) = map (text_at table) ms ≡ map (text_at other) ns
 AlikeStep table other (Hyp l) (Hyp m) = l ≡ m
 AlikeStep table other Split Split = Unit {0}
-AlikeStep table other (Range m) (Range n) = text_at table m ≡ text_at other n
 AlikeStep table other (Lin ms) (Lin ns) = ms ≡ ns
 AlikeStep table other (OnGoal r) (OnGoal s) = r ≡ s
 AlikeStep table other (OnHypothesis r l) (OnHypothesis s m) = (r ≡ s) × (l ≡ m)
 AlikeStep table other (OnTwo r k l) (OnTwo s m n) = (r ≡ s) × (k ≡ m) × (l ≡ n)
 AlikeStep table other (Rewrite r) (Rewrite s) = r ≡ s
 AlikeStep table other (OnTerm r t) (OnTerm s u) = (r ≡ s) × ((text : List ℕ) × SpellsWholeTerm table text t × SpellsWholeTerm other text u)
+AlikeStep table other (Divide t u) (Divide v w) =
+    ((text : List ℕ) × SpellsWholeTerm table text t × SpellsWholeTerm other text v) × ((text : List ℕ) × SpellsWholeTerm table text u × SpellsWholeTerm other text w)
+AlikeStep table other (Instantiate l ts) (Instantiate m us) = (l ≡ m) × Each (λ (t u : Pterm). (text : List ℕ) × SpellsWholeTerm table text t × SpellsWholeTerm other text u) ts us
 AlikeStep table other _ _ = ⊥
 
 abbrev pub AlikeProof : List (List ℕ) → List (List ℕ) → Proof → Proof → Type 0

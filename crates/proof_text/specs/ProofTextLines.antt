@@ -2,17 +2,20 @@
 --
 -- A line is a head, its first word, and a rest: the bytes after the space behind the head, where one stands there. The head says of which
 -- kind the line is, and each kind says what its rest is. A rest is split into words only where its kind wants words.
-use Rattle.std.specs.Prelude.{◌≡◌, ℕ, List, [], ◌∷◌, map, codes, true, Option, None, Some, if◌then◌else◌, ◌==◌}
+use Rattle.std.specs.Prelude.{◌≡◌, ℕ, List, [], ◌∷◌, ◌++◌, map, codes, true, Option, None, Some, if◌then◌else◌, ◌==◌}
 use Rattle.std.specs.List.{list_all, slice_split, before_first}
 use Rattle.std.specs.Option.{option_map}
 use Rattle.std.specs.Str.{bytes_eq, is_utf8}
+use Rattle.logic_term.specs.declared.kinds.Label2.{Label2}
+use Rattle.source_trees.specs.Pterm.{Pterm}
 use Rattle.proof_kernel.specs.declared.step.Multiple.{Multiple}
 use Rattle.proof_kernel.specs.declared.step.Step.{Step}
-use Rattle.proof_kernel.specs.declared.step.Step.TheVariants.{Intro, Hyp, Split, Range, Lin, OnGoal, OnHypothesis, OnTwo, Rewrite, OnTerm}
+use Rattle.proof_kernel.specs.declared.step.Step.TheVariants.{Intro, Hyp, Split, Lin, OnGoal, OnHypothesis, OnTwo, Rewrite, OnTerm, Divide, Instantiate}
 use Rattle.rs_tokens.specs.Tokens.{is_identifier}
-use Rattle.proof_text.specs.ProofTextWords.{◌>>=◌, number_of, label_of, multiple_of, cut}
-use Rattle.proof_kernel.specs.declared.step.TermRule.{TermRule}
-use Rattle.proof_text.specs.ProofTextRules.{goal_word, hypothesis_word, pair_word, term_word, labels_in, rewriting_in, term_rule_of}
+use Rattle.proof_text.specs.declared.rule_words.TermLine.{TermLine}
+use Rattle.proof_text.specs.declared.rule_words.TermLine.TheVariants.{Rule, Division, Instance}
+use Rattle.proof_text.specs.ProofTextWords.{◌>>=◌, number_of, label_of, multiple_of, cut, two_texts, label_and_text}
+use Rattle.proof_text.specs.ProofTextRules.{goal_word, hypothesis_word, pair_word, term_word, labels_in, rewriting_in, term_line_of}
 use Rattle.term_texts.specs.TermTexts.{SpellsWholeTerm, NamesOfTerm}
 pub use Rattle.term_texts.specs.TermTexts.{text_at}
 
@@ -56,26 +59,28 @@ abbrev pub word_of : Step → List ℕ
 word_of (Intro names) = codes "intro"
 word_of (Hyp label) = codes "hyp"
 word_of Split = codes "split"
-word_of (Range name) = codes "range"
 word_of (Lin multiples) = codes "lin"
 word_of (OnGoal rule) = goal_word rule
 word_of (OnHypothesis rule label) = hypothesis_word rule
 word_of (OnTwo rule label other) = pair_word rule
 word_of (Rewrite rewriting) = codes "rewrite"
 word_of (OnTerm rule t) = term_word rule
+word_of (Divide t u) = codes "div"
+word_of (Instantiate label ts) = codes "inst"
 
 -- the rest of its line, under the table's names
 abbrev pub SpellsRest : List (List ℕ) → Option (List ℕ) → Step → Type 0
 SpellsRest table rest (Intro names) = (list_all is_identifier (words_of rest) ≡ true) × (map (text_at table) names ≡ map Some (words_of rest))
 SpellsRest table rest (Hyp label) = (rest >>= label_of) ≡ Some label
 SpellsRest table rest Split = rest ≡ None
-SpellsRest table rest (Range name) = (word : List ℕ) × (rest ≡ Some word) × (is_identifier word ≡ true) × (text_at table name ≡ Some word)
 SpellsRest table rest (Lin multiples) = (rest >>= multiples_in) ≡ Some multiples
 SpellsRest table rest (OnGoal rule) = rest ≡ None
 SpellsRest table rest (OnHypothesis rule label) = (rest >>= labels_in) ≡ Some (label, None)
 SpellsRest table rest (OnTwo rule label other) = (rest >>= labels_in) ≡ Some (label, Some other)
 SpellsRest table rest (Rewrite rewriting) = (rest >>= rewriting_in) ≡ Some rewriting
 SpellsRest table rest (OnTerm rule t) = (text : List ℕ) × (rest ≡ Some text) × SpellsWholeTerm table text t
+SpellsRest table rest (Divide t u) = (texts : List ℕ × List ℕ) × ((rest >>= two_texts) ≡ Some texts) × SpellsWholeTerm table texts.0 t × SpellsWholeTerm table texts.1 u
+SpellsRest table rest (Instantiate label ts) = (text : List ℕ) × (t : Pterm) × ((rest >>= label_and_text) ≡ Some (label, text)) × (ts ≡ t ∷ []) × SpellsWholeTerm table text t
 
 -- the head and the rest spell the step
 abbrev pub SpellsParts : List (List ℕ) → List ℕ → Option (List ℕ) → Step → Type 0
@@ -85,32 +90,34 @@ SpellsParts table head rest step = (head ≡ word_of step) × SpellsRest table r
 abbrev pub SpellsStep : List (List ℕ) → List ℕ → Step → Type 0
 SpellsStep table line step = (is_utf8 line ≡ true) × SpellsParts table (head_of line) (rest_of line) step
 
--- the one word that a rest is
-abbrev pub as_word : Option (List ℕ) → List (List ℕ)
-as_word None = []
-as_word (Some rest) = rest ∷ []
-
--- the texts that a line of no term names, in order: those of an `intro` and that of a `range`
+-- the texts that a line of no term names, in order: those of an `intro`
 unfoldable pub texts_by : List ℕ → Option (List ℕ) → List (List ℕ)
 texts_by head rest =
-    if bytes_eq head (codes "intro") then words_of rest
-    else if bytes_eq head (codes "hyp") then []
-    else if bytes_eq head (codes "split") then []
-    else if bytes_eq head (codes "range") then as_word rest
-    else []
+    if bytes_eq head (codes "intro") then words_of rest else []
 
 -- the texts that a line of a term names: the identifiers and lifetimes of its rest
 abbrev pub NamesInTerm : Option (List ℕ) → List (List ℕ) → Type 0
 NamesInTerm None texts = texts ≡ []
 NamesInTerm (Some rest) texts = NamesOfTerm rest texts
 
--- the same of a line that has such a rule, or none
-abbrev pub NamesByRule : Option TermRule → List ℕ → Option (List ℕ) → List (List ℕ) → Type 0
-NamesByRule None head rest texts = texts ≡ texts_by head rest
-NamesByRule (Some rule) head rest texts = NamesInTerm rest texts
+-- the term behind a label
+abbrev pub term_behind : Option (List ℕ) → Option (List ℕ)
+term_behind rest = option_map (λ (parts : Label2 × List ℕ). parts.1) (rest >>= label_and_text)
+
+-- those of the first term, and then those of the second
+abbrev pub NamesInTwo : Option (List ℕ × List ℕ) → List (List ℕ) → Type 0
+NamesInTwo None texts = texts ≡ []
+NamesInTwo (Some terms) texts = (first : List (List ℕ)) × (second : List (List ℕ)) × NamesOfTerm terms.0 first × NamesOfTerm terms.1 second × (texts ≡ first ++ second)
+
+-- the same of a line of this kind, or of one without terms
+abbrev pub NamesByLine : Option TermLine → List ℕ → Option (List ℕ) → List (List ℕ) → Type 0
+NamesByLine None head rest texts = texts ≡ texts_by head rest
+NamesByLine (Some (Rule rule)) head rest texts = NamesInTerm rest texts
+NamesByLine (Some Division) head rest texts = NamesInTwo (rest >>= two_texts) texts
+NamesByLine (Some Instance) head rest texts = NamesInTerm (term_behind rest) texts
 
 unfoldable pub NamesOfParts : List ℕ → Option (List ℕ) → List (List ℕ) → Type 0
-NamesOfParts head rest texts = NamesByRule (term_rule_of head) head rest texts
+NamesOfParts head rest texts = NamesByLine (term_line_of head) head rest texts
 
 -- the line names these texts, in order
 abbrev pub NamesTexts : List ℕ → List (List ℕ) → Type 0

@@ -15,7 +15,9 @@ use Rattle.proof_kernel.specs.declared.step.Rewriting.{Rewriting}
 use Rattle.proof_kernel.specs.declared.step.Target.{Target}
 use Rattle.proof_kernel.specs.declared.step.Target.TheVariants.{Goal, Hyp}
 use Rattle.proof_kernel.specs.declared.step.TermRule.{TermRule}
-use Rattle.proof_kernel.specs.declared.step.TermRule.TheVariants.{Cut, On}
+use Rattle.proof_kernel.specs.declared.step.TermRule.TheVariants.{Cut, On, Range}
+use Rattle.proof_text.specs.declared.rule_words.TermLine.{TermLine}
+use Rattle.proof_text.specs.declared.rule_words.TermLine.TheVariants.{Rule, Division, Instance}
 use Rattle.proof_text.specs.ProofTextWords.{◌>>=◌, label_of, cut}
 
 -- ---- the words
@@ -45,6 +47,13 @@ pair_word Product = codes "mul"
 abbrev pub term_word : TermRule → List ℕ
 term_word Cut = codes "cut"
 term_word On = codes "on"
+term_word Range = codes "range"
+
+-- of each kind of line that ends with terms
+abbrev pub line_word : TermLine → List ℕ
+line_word (Rule rule) = term_word rule
+line_word Division = codes "div"
+line_word Instance = codes "inst"
 
 -- ---- the labels behind them
 
@@ -103,8 +112,8 @@ hypothesis_rules = Cases ∷ Absurd ∷ Drop ∷ Revert ∷ Back ∷ []
 abbrev pub pair_rules : List PairRule
 pair_rules = ModusPonens ∷ Contradiction ∷ Product ∷ []
 
-abbrev pub term_rules : List TermRule
-term_rules = Cut ∷ On ∷ []
+abbrev pub term_lines : List TermLine
+term_lines = Rule Cut ∷ Rule On ∷ Rule Range ∷ Division ∷ Instance ∷ []
 
 unfoldable pub goal_rule_of : List ℕ → Option GoalRule
 goal_rule_of word = rule_by goal_word goal_rules word
@@ -115,5 +124,5 @@ hypothesis_rule_of word = rule_by hypothesis_word hypothesis_rules word
 unfoldable pub pair_rule_of : List ℕ → Option PairRule
 pair_rule_of word = rule_by pair_word pair_rules word
 
-unfoldable pub term_rule_of : List ℕ → Option TermRule
-term_rule_of word = rule_by term_word term_rules word
+unfoldable pub term_line_of : List ℕ → Option TermLine
+term_line_of word = rule_by line_word term_lines word

@@ -54,6 +54,25 @@ cut byte word =
     then Some (before_first (λ b. b == byte) word, after_first (λ b. b == byte) word)
     else None
 
+-- what stands before a space at the end
+abbrev pub before_space : List ℕ → Option (List ℕ)
+before_space [] = None
+before_space (b ∷ []) = if b == 32 then Some [] else None
+before_space (b ∷ c ∷ bs) = option_map (λ front. b ∷ front) (before_space (c ∷ bs))
+
+-- what stands behind a space at the start
+abbrev pub behind_space : List ℕ → Option (List ℕ)
+behind_space [] = None
+behind_space (b ∷ bs) = if b == 32 then Some bs else None
+
+-- the texts before and behind ` ; `, where it stands at the first semicolon
+unfoldable pub two_texts : List ℕ → Option (List ℕ × List ℕ)
+two_texts rest = do
+  parts ← cut 59 rest
+  first ← before_space parts.0
+  second ← behind_space parts.1
+  Some (first, second)
+
 -- `S.P`: two numbers with a point between
 unfoldable pub label_of : List ℕ → Option Label2
 label_of word = do
@@ -61,6 +80,13 @@ label_of word = do
   step ← number_of parts.0
   part ← number_of parts.1
   Some (record { step = step; part = part })
+
+-- a label, and what stands behind one space
+unfoldable pub label_and_text : List ℕ → Option (Label2 × List ℕ)
+label_and_text rest = do
+  parts ← cut 32 rest
+  label ← label_of parts.0
+  Some (label, parts.1)
 
 -- `goal`, a label, or `-` and a label
 unfoldable pub reference_of : List ℕ → Option Reference

@@ -2,7 +2,7 @@
 ghost use Rattle.std.specs.Prelude.{◌≡◌};
 ghost use Rattle.std.specs.Option.{option_copied};
 ghost use Rattle.proof_text.specs.ProofTextFile.{at_labels, rule_step_of};
-ghost use Rattle.proof_text.specs.ProofTextRules.{goal_rule_of, hypothesis_rule_of, pair_rule_of, term_rule_of, target_of, put_in, rewriting_in};
+ghost use Rattle.proof_text.specs.ProofTextRules.{goal_rule_of, hypothesis_rule_of, pair_rule_of, term_line_of, target_of, put_in, rewriting_in};
 
 use crate::word::{cut, label, labels};
 use logic_term::Label2;
@@ -53,13 +53,27 @@ fn pair_rule(word: &str) -> Option<PairRule>
     }
 }
 
-#[tactic(auto, unfolding(crate::specs::ProofTextRules::term_rule_of))]
-pub(crate) fn term_rule(word: &str) -> Option<TermRule>
-    ensures { result ≡ term_rule_of word.now }
+/// A kind of line that ends with terms.
+#[derive(Clone, Copy)]
+pub(crate) enum TermLine {
+    /// One term, and the rule.
+    Rule(TermRule),
+    /// Two terms: what is divided, and by what.
+    Division,
+    /// A label, and one term.
+    Instance,
+}
+
+#[tactic(auto, unfolding(crate::specs::ProofTextRules::term_line_of))]
+pub(crate) fn term_line(word: &str) -> Option<TermLine>
+    ensures { result ≡ term_line_of word.now }
 {
     match word {
-        "cut" => Some(TermRule::Cut),
-        "on" => Some(TermRule::On),
+        "cut" => Some(TermLine::Rule(TermRule::Cut)),
+        "on" => Some(TermLine::Rule(TermRule::On)),
+        "range" => Some(TermLine::Rule(TermRule::Range)),
+        "div" => Some(TermLine::Division),
+        "inst" => Some(TermLine::Instance),
         _ => None,
     }
 }

@@ -5,16 +5,19 @@ ghost use Rattle.text_core.specs.Names.{text_of};
 ghost use Rattle.name_tables.specs.NameTables.{with_names};
 ghost use Rattle.rs_tokens.specs.Tokens.{is_identifier};
 ghost use Rattle.source_words.specs.Words.{GivesNames};
-ghost use Rattle.proof_text.specs.ProofTextRules.{term_word, term_rule_of};
-ghost use Rattle.proof_text.specs.ProofTextLines.{words_of, multiples_of, multiples_in, SpellsParts, texts_by, NamesOfParts};
-ghost use Rattle.proof_text.specs.ProofTextFile.{is_plain_step, is_term, is_step};
+ghost use Rattle.term_texts.specs.TermTexts.{SpellsWholeTerm};
+ghost use Rattle.proof_text.specs.ProofTextRules.{term_word};
+ghost use Rattle.proof_text.specs.ProofTextLines.{words_of, multiples_of, multiples_in, SpellsParts, texts_by, term_behind, NamesInTerm, NamesInTwo, NamesOfParts};
+ghost use Rattle.proof_text.specs.ProofTextFile.{is_plain_step, is_term, is_term_rest, are_terms, is_step};
+ghost use Rattle.proof_text.specs.ProofTextWords.{two_texts};
 ghost use Rattle.proof_text.specs.ProofTextReads.{Reads, KeepsNames, GivesTexts, room_of};
 
 use crate::fault::Fault;
-use crate::rule_words::{rewriting, rule_step, term_rule};
-use crate::word::{label, multiple};
+use crate::rule_words::{TermLine, rewriting, rule_step, term_line};
+use crate::word::{label, label_and_text, multiple, two_texts};
 use proof_kernel::{Multiple, Step, TermRule};
 use rs_tokens::is_identifier;
+use source_trees::Pterm;
 use std::alloc::Global;
 use term_texts::{TermFault, read_whole_term};
 use text_core::{Items, Name, Names, NoMemory};
@@ -93,19 +96,19 @@ fn intro(alloc: Global, rest: Option<&str>, names: &mut Names) -> Result<Step, F
     Ok(Step::Intro(named(alloc, &words, names)?))
 }
 
-/// `NAME`
-fn range(alloc: Global, word: &str, names: &mut Names) -> Result<Step, Fault>
-    requires { length names.old + 1 < 2 ^ 32 }
-    ensures said { IfOk result (λ step. SpellsParts names.new (codes "range") (Some word.now) step) }
-    ensures bad { IsErrOf result Fault.Bad → is_identifier word.now ≡ false }
-    ensures table { OnOk result (names.new ≡ with_names names.old (word.now ∷ [])) }
+/// The term that the whole text is.
+fn whole_term(alloc: Global, text: &str, names: &mut Names) -> Result<Pterm, Fault>
+    ensures said { IfOk result (λ t. SpellsWholeTerm names.new text.now t) }
+    ensures bad { IsErrOf result Fault.Bad → is_term text.now ≡ false }
+    ensures table { OnOk result (GivesNames names.old text.now names.new) }
     ensures kept { KeepsNames names.old names.new }
-    ensures grown { length names.new ≤ length names.old + 1 }
+    ensures grown { length names.new ≤ length names.old + length text.now }
 {
-    if !is_identifier(word) {
-        return Err(Fault::Bad);
+    match read_whole_term(alloc, text, names) {
+        Ok(term) => Ok(term),
+        Err(TermFault::NoTerm) => Err(Fault::Bad),
+        Err(TermFault::NoMemory) => Err(Fault::NoMemory),
     }
-    Ok(Step::Range(names.intern(alloc, word)?))
 }
 
 /// The step of a rule by the term that the rest of the line is.
@@ -116,11 +119,45 @@ fn on_term(alloc: Global, rule: TermRule, rest: &str, names: &mut Names) -> Resu
     ensures kept { KeepsNames names.old names.new }
     ensures grown { length names.new ≤ length names.old + length rest.now }
 {
-    match read_whole_term(alloc, rest, names) {
-        Ok(term) => Ok(Step::OnTerm(rule, term)),
-        Err(TermFault::NoTerm) => Err(Fault::Bad),
-        Err(TermFault::NoMemory) => Err(Fault::NoMemory),
-    }
+    let term = whole_term(alloc, rest, names)?;
+    Ok(Step::OnTerm(rule, term))
+}
+
+/// `TERM ; TERM`
+fn division(alloc: Global, rest: &str, names: &mut Names) -> Result<Step, Fault>
+    ensures said { IfOk result (λ step. SpellsParts names.new (codes "div") (Some rest.now) step) }
+    ensures bad { IsErrOf result Fault.Bad → are_terms (two_texts rest.now) ≡ false }
+    ensures table { OnOk result (GivesTexts (NamesInTwo (two_texts rest.now)) names.old names.new) }
+    ensures kept { KeepsNames names.old names.new }
+    ensures grown { length names.new ≤ length names.old + length rest.now }
+{
+    let (first, second) = two_texts(rest).ok_or(Fault::Bad)?;
+    let divided = whole_term(alloc, first, names)?;
+    let divisor = whole_term(alloc, second, names)?;
+    Ok(Step::Divide(divided, divisor))
+}
+
+fn one_term(alloc: Global, term: Pterm) -> Result<Items<Pterm>, Fault>
+    ensures one { IfOk result (λ ts. ts ≡ term ∷ []) }
+    ensures bad { IsErrOf result Fault.Bad → ⊥ }
+{
+    let mut terms = Vec::new(alloc);
+    terms.push(term)?;
+    Ok(Items::from_vec(terms))
+}
+
+/// `LABEL TERM`
+fn instance(alloc: Global, rest: &str, names: &mut Names) -> Result<Step, Fault>
+    ensures said { IfOk result (λ step. SpellsParts names.new (codes "inst") (Some rest.now) step) }
+    ensures bad { IsErrOf result Fault.Bad → is_term_rest (term_behind (Some rest.now)) ≡ false }
+    ensures table { OnOk result (GivesTexts (NamesInTerm (term_behind (Some rest.now))) names.old names.new) }
+    ensures kept { KeepsNames names.old names.new }
+    ensures grown { length names.new ≤ length names.old + length rest.now }
+{
+    let (label, text) = label_and_text(rest).ok_or(Fault::Bad)?;
+    let term = whole_term(alloc, text, names)?;
+    let terms = one_term(alloc, term)?;
+    Ok(Step::Instantiate(label, terms))
 }
 
 /// A step without a term, by the first word of its line and the rest.
@@ -150,7 +187,6 @@ fn plain_step(
             }
             Ok(Step::Split)
         }
-        "range" => range(alloc, rest.ok_or(Fault::Bad)?, names),
         "lin" => Ok(Step::Lin(lin(alloc, rest.ok_or(Fault::Bad)?)?)),
         "rewrite" => {
             let rest = rest.ok_or(Fault::Bad)?;
@@ -174,8 +210,10 @@ pub(crate) fn step(
     ensures kept { KeepsNames names.old names.new }
     ensures grown { length names.new ≤ length names.old + room_of (option_copied rest.entry) }
 {
-    match term_rule(head) {
-        Some(rule) => on_term(alloc, rule, rest.ok_or(Fault::Bad)?, names),
+    match term_line(head) {
+        Some(TermLine::Rule(rule)) => on_term(alloc, rule, rest.ok_or(Fault::Bad)?, names),
+        Some(TermLine::Division) => division(alloc, rest.ok_or(Fault::Bad)?, names),
+        Some(TermLine::Instance) => instance(alloc, rest.ok_or(Fault::Bad)?, names),
         None => plain_step(alloc, head, rest, names),
     }
 }

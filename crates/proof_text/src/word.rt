@@ -3,7 +3,7 @@ ghost use Rattle.std.specs.Char.{is_ascii_digit};
 ghost use Rattle.std.specs.List.{list_all};
 ghost use Rattle.std.specs.Option.{option_map, option_copied};
 ghost use Rattle.proof_text.specs.ProofTextRules.{labels_in};
-ghost use Rattle.proof_text.specs.ProofTextWords.{is_numeral, number_of, multiplier_of, cut, after_minus, label_of, reference_of, multiple_of};
+ghost use Rattle.proof_text.specs.ProofTextWords.{is_numeral, number_of, multiplier_of, cut, after_minus, label_of, reference_of, multiple_of, before_space, behind_space, two_texts, label_and_text};
 
 use logic_term::Label2;
 use proof_kernel::{Multiple, Reference};
@@ -65,6 +65,31 @@ pub(crate) fn cut(word: &str, at: char) -> Option<(&str, &str)>
     word.split_once(at)
 }
 
+/// What stands before a space at the end.
+fn before_space(text: &str) -> Option<&str>
+    ensures { option_copied result ≡ before_space text.now }
+{
+    text.strip_suffix(' ')
+}
+
+/// What stands behind a space at the start.
+fn behind_space(text: &str) -> Option<&str>
+    ensures { option_copied result ≡ behind_space text.now }
+{
+    text.strip_prefix(' ')
+}
+
+/// The texts before and behind ` ; `.
+#[tactic(auto, unfolding(crate::specs::ProofTextWords::two_texts))]
+pub(crate) fn two_texts(rest: &str) -> Option<(&str, &str)>
+    ensures { option_map (λ parts. (parts.0.now, parts.1.now)) result ≡ two_texts rest.now }
+{
+    let (first, second) = cut(rest, ';')?;
+    let first = before_space(first)?;
+    let second = behind_space(second)?;
+    Some((first, second))
+}
+
 /// `S.P`
 #[tactic(auto, unfolding(crate::specs::ProofTextWords::label_of))]
 pub(crate) fn label(word: &str) -> Option<Label2>
@@ -74,6 +99,16 @@ pub(crate) fn label(word: &str) -> Option<Label2>
     let step = number(step)?;
     let part = number(part)?;
     Some(Label2 { step, part })
+}
+
+/// A label, and what stands behind one space.
+#[tactic(auto, unfolding(crate::specs::ProofTextWords::label_and_text))]
+pub(crate) fn label_and_text(rest: &str) -> Option<(Label2, &str)>
+    ensures { option_map (λ parts. (parts.0, parts.1.now)) result ≡ label_and_text rest.now }
+{
+    let (first, text) = cut(rest, ' ')?;
+    let label = label(first)?;
+    Some((label, text))
 }
 
 /// A label, or two with a space between.

@@ -23,6 +23,6 @@ pub use applying::{applied, apply};
 pub use checks::Check;
 pub use copy_types::CopyTypes;
 pub use laws::{a_cycle_is_endless, first_refusals_are_one, ranked_types_are_bounded};
-pub use meaning::meant;
+pub use meaning::{meant, word_of};
 pub use table::AdtTable;
 pub use written::{ArgumentList, Elision, TypeName, TypeScope};

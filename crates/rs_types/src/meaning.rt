@@ -2,7 +2,7 @@
 ghost use Rattle.std.specs.Prelude.{◌≡◌, None, IfOk, slice_get};
 ghost use Rattle.source_trees.specs.TypeTreeView.{types_of, type_arguments_of};
 ghost use Rattle.text_core.specs.declared.fault.PassError.TheVariants as errors;
-ghost use Rattle.rs_types.specs.Meant.{scope_of, Answers, place_among, if_known, type_named, lifetime_named, elided, all_elided, lifetime_or, alone, in_box, regions_for, declared_at, named_at, self_or, name_or, referring};
+ghost use Rattle.rs_types.specs.Meant.{words, scope_of, Answers, place_among, if_known, type_named, lifetime_named, elided, all_elided, lifetime_or, alone, in_box, regions_for, declared_at, named_at, self_or, name_or, referring};
 ghost use Rattle.rs_types.specs.Meant.{meant, meant_all, meant_arguments};
 
 use crate::written::{ArgumentList, Elision, TypeName, TypeScope};
@@ -63,6 +63,13 @@ fn word_at(words: &[TypeName], place: usize) -> Option<TypeName>
     words.get(place).copied()
 }
 
+/// The word of types that has this name.
+pub fn word_of(name: Name) -> Option<TypeName>
+    ensures { result ≡ slice_get words name.0 }
+{
+    word_at(&WORDS, name.0 as usize)
+}
+
 /// The word, but for `Int` where it is no type.
 fn if_known(has_int: bool, word: Option<TypeName>) -> Option<TypeName>
     ensures { result ≡ if_known has_int word }
@@ -83,7 +90,7 @@ fn type_named(scope: &TypeScope<'_>, name: Name) -> Result<Option<TypeName>, NoM
     }
     match scope.declared.find(name) {
         Some(id) => Ok(Some(TypeName::Declared(id))),
-        None => Ok(if_known(scope.has_int, word_at(&WORDS, name.0 as usize))),
+        None => Ok(if_known(scope.has_int, word_of(name))),
     }
 }
 

@@ -1,7 +1,7 @@
 -- Types and paths (Rust Reference, "Types", "Paths"): where the first form begins that is not in the set.
-use Rattle.std.specs.Prelude.{ℕ, Bool, true, false, [], Option, None, nat_le, if◌then◌else◌}
+use Rattle.std.specs.Prelude.{◌==◌, ℕ, Bool, true, false, [], Option, None, nat_le, if◌then◌else◌}
 use Rattle.text_core.specs.declared.name.Name.{Name}
-use Rattle.text_core.specs.declared.name.TheConstants.{BOOL}
+use Rattle.text_core.specs.declared.name.TheConstants.{BOOL, INT}
 use Rattle.source_trees.specs.declared.path.PathNode.{PathNode}
 use Rattle.source_trees.specs.declared.path.PathNode.TheVariants.{Names, Member, Qualified}
 use Rattle.source_trees.specs.declared.types.TypeArgument.{TypeArgument}
@@ -12,9 +12,12 @@ use Rattle.source_forms.specs.declared.form.Form.{Form}
 use Rattle.source_forms.specs.declared.form.Form.TheVariants as form
 use Rattle.source_forms.specs.Forms.{◌or_else◌, here, in_each}
 
--- the words of the types of machine integers and `bool` are the first of each table of names
+-- the words of the types of machine integers and `bool` are the first of each table of names, and `Int` is behind them
+abbrev pub word_form : Name → Form
+word_form name = if nat_le name.0 BOOL.0 then form.MachineType else (if name.0 == INT.0 then form.MathIntType else form.NamedType)
+
 abbrev pub named_form : Name → W.TypeArguments → Form
-named_form name W.no_arguments = if nat_le name.0 BOOL.0 then form.MachineType else form.NamedType
+named_form name W.no_arguments = word_form name
 named_form name (W.with_lifetime lifetime others) = form.NamedType
 named_form name (W.with_type ty others) = form.NamedType
 

@@ -88,6 +88,8 @@ pub enum Form {
     // ---- types
     /// The name of a type of machine integers, or `bool`.
     MachineType,
+    /// `Int`
+    MathIntType,
     /// Any other name, or one with arguments.
     NamedType,
     TupleType,

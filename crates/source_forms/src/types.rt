@@ -2,21 +2,33 @@
 ghost use Rattle.std.specs.Prelude.{◌≡◌};
 ghost use Rattle.source_trees.specs.TypeTreeView.{types_of, type_arguments_of};
 ghost use Rattle.source_forms.specs.Forms.{is_among, in_each};
-ghost use Rattle.source_forms.specs.TypeForms.{named_form, reference_form, unbuilt_type, unbuilt_types, unbuilt_arguments, unbuilt_argument, path_form, unbuilt_path};
+ghost use Rattle.source_forms.specs.TypeForms.{word_form, named_form, reference_form, unbuilt_type, unbuilt_types, unbuilt_arguments, unbuilt_argument, path_form, unbuilt_path};
 
 use crate::form::Form;
 use crate::place::here;
 use source_trees::{Path, PathNode, TypeArgument, TypeNode, TypeTree};
 use text_core::Name;
-use text_core::name::BOOL;
+use text_core::name::{BOOL, INT};
+
+/// The form of a name alone.
+fn word_form(name: Name) -> Form
+    ensures { result ≡ word_form name }
+{
+    if name.0 <= BOOL.0 {
+        Form::MachineType
+    } else if name.0 == INT.0 {
+        Form::MathIntType
+    } else {
+        Form::NamedType
+    }
+}
 
 /// The form of a name with these arguments.
-#[tactic(auto, using(crate::proofs::Sizes::named_with))]
 fn named_form(name: Name, arguments: &[TypeArgument]) -> Form
     ensures { result ≡ named_form name (type_arguments_of arguments.now) }
 {
-    if arguments.is_empty() && name.0 <= BOOL.0 {
-        Form::MachineType
+    if arguments.is_empty() {
+        word_form(name)
     } else {
         Form::NamedType
     }

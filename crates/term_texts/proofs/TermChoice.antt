@@ -23,7 +23,7 @@ use Rattle.source_grammar.proofs.Conditions.{source_is_ll1}
 use Rattle.rs_tokens.specs.declared.token.Token.{Token}
 use Rattle.rs_tokens.specs.Reading.{AreTokens}
 use Rattle.rs_tokens.proofs.OneReading.{one_list}
-use Rattle.term_texts.specs.TermTexts.{token_kinds, IsTermText}
+use Rattle.term_texts.specs.TermTexts.{token_kinds, fills, IsTermText}
 use Rattle.term_texts.proofs.TokenChoice.{Choice, by_test, tokens_there}
 
 -- ---- each parse has an outcome
@@ -133,13 +133,16 @@ same_tokens text one other a b = (one_list text 0 one other None None a.tokens_o
 pub term_there : (text : List ℕ) → Choice (IsTermText text)
 term_there text = by (by_test (nat_le (length text) (2 ^ 20))) (tokens_there text)
   where
-    derived : length text ≤ 2 ^ 20 → (t : (tokens : List Token) × AreTokens text tokens) → Choice ((rs : List ℕ) × IsSourceDerivation term_goal 0 (token_kinds text t.0) rs) → Choice (IsTermText text)
-    derived short t (inl d) = inl (record { short = short; tokens = t.0; are_tokens = t.1; derivation = d.0; derived = d.1 })
-    derived short t (inr never) = inr (λ is.
+    derived : length text ≤ 2 ^ 20 → (t : (tokens : List Token) × AreTokens text tokens) → Choice (fills text t.0 ≡ true) → Choice ((rs : List ℕ) × IsSourceDerivation term_goal 0 (token_kinds text t.0) rs) → Choice (IsTermText text)
+    derived short t (inl f) (inl d) = inl (record { short = short; tokens = t.0; are_tokens = t.1; filled = f; derivation = d.0; derived = d.1 })
+    derived short t (inr gap) d = inr (λ is.
+        let same : is.tokens ≡ t.0 = same_tokens text is.tokens t.0 is.are_tokens t.1 in
+        gap (subst (λ (ts : List Token). fills text ts ≡ true) same is.filled))
+    derived short t (inl f) (inr never) = inr (λ is.
         let same : is.tokens ≡ t.0 = same_tokens text is.tokens t.0 is.are_tokens t.1 in
         never (is.derivation, subst (λ (ts : List Token). IsSourceDerivation term_goal 0 (token_kinds text ts) is.derivation) same is.derived))
 
     by : Choice (nat_le (length text) (2 ^ 20) ≡ true) → Choice ((tokens : List Token) × AreTokens text tokens) → Choice (IsTermText text)
-    by (inl e) (inl t) = derived (grind (arith, nat_tests, e)) t (derivation_there (token_kinds text t.0))
+    by (inl e) (inl t) = derived (grind (arith, nat_tests, e)) t (by_test (fills text t.0)) (derivation_there (token_kinds text t.0))
     by (inl e) (inr never) = inr (λ is. never (is.tokens, is.are_tokens))
     by (inr long) t = inr (λ is. let short : length text ≤ 2 ^ 20 = is.short in long (grind (arith, nat_tests, short)))

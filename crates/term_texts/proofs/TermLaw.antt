@@ -1,7 +1,7 @@
 -- What is known of texts that are terms, in each table of names.
 use Rattle.std.proofs.Common.{◌≡◌, ℕ, ◌+◌, ◌≤◌, ◌^◌, Bool, true, false, List, [], ◌∷◌, ◌++◌, length, take, drop, Some, None, inl, inr, refl, sym, ◌∙◌, ap, subst, arith, slice_get, get_or, ◌<◌, MatchBool, length-drop, length-append, if◌then◌else◌}
 use Rattle.std.proofs.lemmas.List.{take_all, length-map}
-use Rattle.std.proofs.lemmas.Bool.{cases_lt}
+use Rattle.std.proofs.lemmas.Bool.{cases_lt, false≢true}
 use Rattle.std.proofs.lemmas.Option.{slice_get-get_or}
 use Rattle.text_core.specs.Names.{words as table_words, text_of, HaveOnePlace}
 use Rattle.text_core.specs.declared.name.Name.{Name}
@@ -38,7 +38,7 @@ use Rattle.pearlite.specs.Meaning.{shape_actions}
 use Rattle.pearlite.specs.Parsed.{ReadsTerm, SpellsTerm, IsTermError}
 use Rattle.pearlite.specs.Parts.{first_term}
 use Rattle.source_trees.specs.Pterm.{Pterm}
-use Rattle.term_texts.specs.TermTexts.{text_at, HasNameAt, IsWordAt, AreWordsAt, no_word, one_word, SpellsWholeTerm, token_kinds, IsTermText, NamesOfTerm}
+use Rattle.term_texts.specs.TermTexts.{text_at, HasNameAt, IsWordAt, AreWordsAt, no_word, one_word, SpellsWholeTerm, token_kinds, fills, IsTermText, NamesOfTerm}
 use Rattle.term_texts.proofs.TermChoice.{same_tokens}
 
 -- ---- words by the places of their names
@@ -72,6 +72,7 @@ is_term_text table text t s = record {
   short = s.short;
   tokens = s.tokens;
   are_tokens = s.are_tokens;
+  filled = s.filled;
   derivation = preorder s.tree;
   derived = subst (λ (ks : List ℕ). IsSourceDerivation term_goal 0 ks (preorder s.tree)) (kinds_at table text s.tokens s.words s.are_words) s.derived;
 }
@@ -126,6 +127,7 @@ module _ (table : List (List ℕ)) (text : List ℕ) where
           short = is.short;
           tokens = is.tokens;
           are_tokens = is.are_tokens;
+          filled = is.filled;
           words = words.0;
           are_words = words.1;
           tree = tree.0;
@@ -167,6 +169,7 @@ module _ (old new : List (List ℕ)) (keeps : KeepsTexts old new) (text : List �
     short = s.short;
     tokens = s.tokens;
     are_tokens = s.are_tokens;
+    filled = s.filled;
     words = s.words;
     are_words = kept_words s.tokens s.words s.are_words;
     tree = s.tree;
@@ -225,15 +228,16 @@ whole_front words t taken many r =
     subst (λ (rs : List ℕ). IsSourceDerivation term_goal 0 kinds rs) (sym r.derives) (derived, r.longest.within)
 
 -- the parser read all tokens
-pub read_whole : (old new : List (List ℕ)) (text : List ℕ) (tokens : List Token) (t : Pterm) (after : ℕ) → length text ≤ 2 ^ 20 → AreTokens text tokens → GivesNames old text new →
+pub read_whole : (old new : List (List ℕ)) (text : List ℕ) (tokens : List Token) (t : Pterm) (after : ℕ) → length text ≤ 2 ^ 20 → AreTokens text tokens → fills text tokens ≡ true → GivesNames old text new →
     SpellsTerm old (whole_standing text tokens) t after → after ≡ length tokens → SpellsWholeTerm new text t
-read_whole old new text tokens t after short are gives s whole =
+read_whole old new text tokens t after short are filled gives s whole =
     let table : s.table ≡ new = one_table old text s.table new s.gives gives in
     let many = as_many_words s.table text tokens s.words are s.are_words in
     record {
       short = short;
       tokens = s.are_words.tokens;
       are_tokens = s.are_words.are_tokens;
+      filled = subst (λ (ts : List Token). fills text ts ≡ true) (same_tokens text tokens s.are_words.tokens are s.are_words.are_tokens) filled;
       words = s.words;
       are_words = subst (λ (ts : List (List ℕ)). AreWordsAt ts text s.are_words.tokens s.words) table (words_there s.table text s.are_words.tokens s.words s.are_words.are_words);
       tree = s.reads.tree;
@@ -275,6 +279,11 @@ read_none text tokens (P.Source error) after r memory is =
     derived_or_faulty term_goal (kinds_in r.words) 0 is.derivation r.fault (no_fault r.words (length text) r.fault error r.told) (derived_of r.table text r.words r.are_words is) (fault_of_all term_goal (kinds_in r.words) 0 r.fault r.is_fault)
 read_none text tokens (P.Limit limit) after r memory is = r
 read_none text tokens P.NoMemory after r memory is = memory refl
+
+-- something stands before the first token or behind the last
+pub not_filled : (text : List ℕ) (tokens : List Token) → AreTokens text tokens → fills text tokens ≡ false → IsTermText text → ⊥
+not_filled text tokens are gap is =
+    false≢true (sym gap ∙ subst (λ (ts : List Token). fills text ts ≡ true) (same_tokens text is.tokens tokens is.are_tokens are) is.filled)
 
 -- the text has no tokens
 bad_text : (text : List ℕ) (error : SourceError) (tokens : List Token) → IsBadText text error → AreTokens text tokens → ⊥

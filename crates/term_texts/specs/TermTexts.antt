@@ -1,5 +1,5 @@
 -- Texts that are whole terms.
-use Rattle.std.specs.Prelude.{◌≡◌, ℕ, ◌≤◌, ◌^◌, ◌++◌, List, [], ◌∷◌, length, map, MatchBool, Option, Some, slice_get}
+use Rattle.std.specs.Prelude.{◌≡◌, ℕ, ◌≤◌, ◌-◌, ◌^◌, ◌++◌, ◌==◌, ◌&&◌, Bool, true, false, List, [], ◌∷◌, length, map, MatchBool, Option, None, Some, slice_get}
 use Rattle.text_core.specs.Names.{words}
 use Rattle.text_core.specs.declared.name.Name.{Name}
 use Rattle.rs_tokens.specs.declared.token.Token.{Token}
@@ -21,6 +21,20 @@ use Rattle.source_trees.specs.Pterm.{Pterm}
 -- says, but also of tables that are too long for a program
 abbrev pub text_at : List (List ℕ) → Name → Option (List ℕ)
 text_at table name = slice_get (words ++ table) name.0
+
+-- ---- where tokens stand
+
+abbrev pub begins : Option Token → Bool
+begins None = false
+begins (Some token) = token.span.start == 0
+
+abbrev pub ends : List ℕ → Option Token → Bool
+ends text None = false
+ends text (Some token) = token.span.«end» == length text
+
+-- the first token begins where the text does, and the last ends where it ends: no white space and no comment stands around them
+abbrev pub fills : List ℕ → List Token → Bool
+fills text tokens = begins (slice_get tokens 0) && ends text (slice_get tokens (length tokens - 1))
 
 -- ---- a term
 
@@ -47,6 +61,7 @@ pub record SpellsWholeTerm (table : List (List ℕ)) (text : List ℕ) (t : Pter
   pub short : length text ≤ 2 ^ 20
   pub tokens : List Token
   pub are_tokens : AreTokens text tokens
+  pub filled : fills text tokens ≡ true
   pub words : List Word
   pub are_words : AreWordsAt table text tokens words
   pub tree : Tree
@@ -65,6 +80,7 @@ pub record IsTermText (text : List ℕ) : Type 0 where
   pub short : length text ≤ 2 ^ 20
   pub tokens : List Token
   pub are_tokens : AreTokens text tokens
+  pub filled : fills text tokens ≡ true
   pub derivation : List ℕ
   pub derived : IsSourceDerivation term_goal 0 (token_kinds text tokens) derivation
 

@@ -1,8 +1,8 @@
 //! The reading of a text that is to be a term.
-ghost use Rattle.std.specs.Prelude.{◌≡◌, ℕ, ◌+◌, ◌≤◌, ◌<◌, ◌^◌, List, length, IfOk, OnOk, IsTrue, IsErrOf};
+ghost use Rattle.std.specs.Prelude.{◌≡◌, ℕ, ◌+◌, ◌≤◌, ◌<◌, ◌^◌, List, length, true, IfOk, OnOk, IsTrue, IsErrOf};
 ghost use Rattle.rs_tokens.specs.Reading.{AreTokens};
 ghost use Rattle.source_words.specs.Words.{GivesNames, Keeps};
-ghost use Rattle.term_texts.specs.TermTexts.{SpellsWholeTerm, IsTermText};
+ghost use Rattle.term_texts.specs.TermTexts.{SpellsWholeTerm, IsTermText, fills};
 
 use pearlite::{Cursor, parse_term};
 use rs_tokens::Token;
@@ -51,6 +51,18 @@ fn has_room(names: &Names) -> bool
     names.text(Name(0xffef_ffff)).is_none()
 }
 
+/// Whether the first token begins where the text does, and the last ends where it ends.
+fn fills(text: &[u8], tokens: &[Token]) -> bool
+    ensures { result ≡ fills text.now tokens.now }
+{
+    if tokens.is_empty() {
+        return false;
+    }
+    let first = tokens[0];
+    let last = tokens[tokens.len() - 1];
+    first.span.start == 0 && last.span.end as usize == text.len()
+}
+
 /// The term that all tokens spell.
 fn term_in(
     alloc: Global,
@@ -59,6 +71,7 @@ fn term_in(
     names: &mut Names,
 ) -> Result<Pterm, TermFault>
     requires whole { AreTokens text.now tokens.now }
+    requires filled { fills text.now tokens.now ≡ true }
     requires short { length text.now ≤ 2 ^ 20 }
     requires room { length names.old + 2 ^ 20 < 2 ^ 32 }
     ensures ok { IfOk result (λ term. SpellsWholeTerm names.new text.now term) }
@@ -96,5 +109,8 @@ pub fn read_whole_term(alloc: Global, text: &str, names: &mut Names) -> Result<P
         return Err(TermFault::NoMemory);
     }
     let tokens = tokens_in(alloc, bytes)?;
+    if !fills(bytes, tokens.as_slice()) {
+        return Err(TermFault::NoTerm);
+    }
     term_in(alloc, bytes, tokens.as_slice(), names)
 }

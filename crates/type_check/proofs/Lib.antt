@@ -14,6 +14,9 @@ pub mod Fits
 pub mod Lookups
 pub mod PartByPart
 pub mod Parts
+pub mod PlainParts
+pub mod PlainTrees
+pub mod PlainWhole
 pub mod Refusing
 pub mod Speaking
 pub mod StatementLists

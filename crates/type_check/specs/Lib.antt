@@ -11,6 +11,7 @@ pub mod Laws
 pub mod Leaves
 pub mod Literals
 pub mod Plain
+pub mod PlainSources
 pub mod Rules
 pub mod Scope
 pub mod Setting

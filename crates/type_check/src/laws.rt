@@ -2,13 +2,18 @@
 //! contract of `check` speaks.
 
 ghost use Rattle.type_check.specs.Causes.{RefusalsHaveCauses};
-ghost use Rattle.type_check.specs.Laws.{CheckedProgramsFit, CheckedProgramsAreGood};
+ghost use Rattle.type_check.specs.Laws.{CheckedPlainSourcesArePlain, CheckedProgramsFit, CheckedProgramsAreGood};
 ghost use Rattle.type_check.specs.Rules.{TypedByRules, TypingIsOne};
 
 /// The program that a source comes to fits, and no clause and no invariant of it is refused.
 pub fn checked_programs_fit()
     ensures fits { CheckedProgramsFit }
     ensures good { CheckedProgramsAreGood }
+{}
+
+/// The program that a source without tuples, parts and types of tuples comes to is over integers, truth values and unit alone.
+pub fn checked_plain_sources_are_plain()
+    ensures { CheckedPlainSourcesArePlain }
 {}
 
 /// A refusal of program code has a cause at the expression or at a part of it: E05 at a name that means no variable or no

@@ -36,7 +36,10 @@ pub use assertion::Assertion;
 pub use checking::check;
 pub use declarations::{Declared, declare};
 pub use elaborate::{answer_name, variable_name};
-pub use laws::{checked_programs_fit, expressions_are_typed_by_rules, refusals_have_causes};
+pub use laws::{
+    checked_plain_sources_are_plain, checked_programs_fit, expressions_are_typed_by_rules,
+    refusals_have_causes,
+};
 pub use leaving::leaves;
 pub use program::{ClauseKind, Signature, TypedClause, TypedFunction, TypedProgram};
 pub use typed::{TypedExpr, TypedNode, TypedStmt};

@@ -6,7 +6,6 @@ use Rattle.text_core.specs.declared.name.Name.{Name}
 use Rattle.logic_term.specs.declared.declaration.AdtDecl.{AdtDecl}
 use Rattle.logic_term.specs.declared.kinds.Label.{Label}
 use Rattle.logic_term.specs.declared.obligation.Contract.{Contract}
-use Rattle.logic_term.specs.Ty.{Ty, int, bool, tuple, no_tys}
 use Rattle.mir_ir.specs.declared.body.Contracts.{Contracts}
 use Rattle.mir_ir.specs.declared.body.Body.{Body}
 use Rattle.mir_ir.specs.declared.body.Initialised.{Initialised}
@@ -16,7 +15,6 @@ use Rattle.mir_ir.specs.WellFormed.{AreSound, Labelling, MeetsMoveRows}
 use Rattle.prophecy_logic.specs.Loop.{is_whole, is_gone}
 use Rattle.prophecy_sim.specs.Programs as sim
 use Rattle.type_check.specs.declared.program.TypedFunction.{TypedFunction}
-use Rattle.type_check.specs.WellTyped.{IsBuilt}
 use Rattle.mir_build.specs.Laws.{Lowers, HeadsAreThere}
 use Rattle.mir_ir.specs.Names.{IsOneOf, IsNameIn}
 use Rattle.mir_build.proofs.LawsOfPrograms.{bodies_are_sound, bodies_are_laid_out, locals_have_names, locals_have_built_types, heads_speak_of_what_is_there, contracts_speak_of_parameters}
@@ -24,14 +22,6 @@ use Rattle.verify_core.specs.Prepared.{gone_of, program_of}
 use Rattle.verify_core.proofs.ReachLaws.{any_found}
 use Rattle.mir_ir.specs.declared.body.Bodies.{Bodies}
 use Rattle.verify_core.proofs.Basics.{some_same}
-
--- ---- types of locals
-
-scalar : (t : Ty) → IsBuilt t → sim.IsScalar t
-scalar (int k) h = tt
-scalar bool h = tt
-scalar (tuple no_tys) h = tt
-scalar _ h = absurd h
 
 -- ---- heads
 
@@ -100,7 +90,7 @@ module _ (table : List (List ℕ)) (ds : List AdtDecl) (fs : List TypedFunction)
         is_contract = c.2;
         simple = record {
           names = (locals_have_names table ds fs bs cs gones lowers n b is_body).0;
-          scalars = λ x ty is. scalar ty (locals_have_built_types table ds fs bs cs gones lowers n b is_body x ty is);
+          scalars = locals_have_built_types table ds fs bs cs gones lowers n b is_body;
           laid_out = bodies_are_laid_out table ds fs bs cs gones lowers n b is_body;
         };
         speaks = c.4;

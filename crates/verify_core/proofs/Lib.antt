@@ -4,6 +4,7 @@ mod JudgeLaws
 mod OwedLaws
 mod OwedOnce
 mod PassLaws
+mod PlainItems
 mod ReachLaws
 mod RoundLaws
 mod RunLaws

@@ -36,6 +36,7 @@ use Rattle.type_check.specs.Answers.{Refuses as TypesRefuse}
 use Rattle.type_check.specs.Checked.{checked}
 use Rattle.type_check.specs.DeclaredTypes.{declared_types}
 use Rattle.type_check.specs.Declaring.{checks}
+use Rattle.type_check.specs.Plain.{EachIsPlain}
 use Rattle.type_check.specs.WellTyped.{ProgramFits, signatures}
 use Rattle.mir_build.specs.declared.lowered.Lowered.{Lowered}
 use Rattle.mir_build.specs.Laws.{Lowers}
@@ -60,7 +61,7 @@ use Rattle.verify_core.specs.Refusals.{refusal_of}
 use Rattle.verify_core.specs.Owed.{owing}
 use Rattle.verify_core.proofs.Assembly.{sound, gone_at}
 use Rattle.verify_core.proofs.ReachLaws.{within, got}
-use Rattle.verify_core.proofs.Verified.{typed_program_fits}
+use Rattle.verify_core.proofs.Verified.{typed_program_fits, typed_program_is_plain}
 use Rattle.mir_ir.specs.declared.body.Bodies.{Bodies}
 use Rattle.mir_ir.specs.Callees.{contract_at}
 use Rattle.mir_ir.specs.declared.terminator.Callee.{Callee}
@@ -106,6 +107,9 @@ lowered_as source table typed ds l h = subst (λ (x : List AdtDecl). IsLowered t
 pub fits_of : (source : List ℕ) (table : List (List ℕ)) (typed : TypedProgram) → IsTypedAs source table typed → ProgramFits typed
 fits_of source table typed t = typed_program_fits t.items typed t.is_typed
 
+pub plain_of : (source : List ℕ) (table : List (List ℕ)) (typed : TypedProgram) → IsTypedAs source table typed → EachIsPlain typed.functions
+plain_of source table typed t = typed_program_is_plain t.items typed t.has.spelled.built t.is_typed
+
 pub lowering_refused : (source : List ℕ) (table : List (List ℕ)) (typed : TypedProgram) (e : PassError) → IsTypedAs source table typed → FailsFor (HasMoreBlocks typed 4096) e → RefusesSource source (refusal_of e)
 lowering_refused source table typed (errors.Source e) t fails = absurd fails
 lowering_refused source table typed (errors.Limit l) t (is, more) = subst (λ (m : Limit). IsPastLimit source m) (sym is) (IsPastLimit.blocks t more)
@@ -139,9 +143,9 @@ module _ (table : List (List ℕ)) where
       let inside : f < length cs.of = subst (λ (k : ℕ). f < k) (sym same) (within bs.bodies f call.0.0 call.0.2) in
       (got cs.of f inside, (call.0.1, call.0.5.1))
 
-  pub walkable : (ds : List AdtDecl) (typed : TypedProgram) (l : Lowered) → IsLowered table ds typed l → ProgramFits typed → CanWalkAll l
-  walkable ds typed l lowered fits =
-      let lowers : Lowers table ds typed.functions l.bodies l.contracts l.gone = record { lowers = lowered; fits = fits } in
+  pub walkable : (ds : List AdtDecl) (typed : TypedProgram) (l : Lowered) → IsLowered table ds typed l → ProgramFits typed → EachIsPlain typed.functions → CanWalkAll l
+  walkable ds typed l lowered fits plain =
+      let lowers : Lowers table ds typed.functions l.bodies l.contracts l.gone = record { lowers = lowered; fits = fits; plain = plain } in
       let sizes = as_many (signatures typed.functions) 0 typed.functions l.bodies.bodies l.contracts.of l.gone lowered.each in
       record {
         contracts = sizes.0;
@@ -155,8 +159,8 @@ module _ (table : List (List ℕ)) where
         };
       }
 
-  pub laid_out : (ds : List AdtDecl) (typed : TypedProgram) (l : Lowered) → IsLowered table ds typed l → ProgramFits typed → AreLaidOut l.bodies
-  laid_out ds typed l lowered fits n b is = bodies_are_laid_out table ds typed.functions l.bodies l.contracts l.gone (record { lowers = lowered; fits = fits }) n b is
+  pub laid_out : (ds : List AdtDecl) (typed : TypedProgram) (l : Lowered) → IsLowered table ds typed l → ProgramFits typed → EachIsPlain typed.functions → AreLaidOut l.bodies
+  laid_out ds typed l lowered fits plain n b is = bodies_are_laid_out table ds typed.functions l.bodies l.contracts l.gone (record { lowers = lowered; fits = fits; plain = plain }) n b is
 
 -- ---- one function
 

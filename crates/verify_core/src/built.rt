@@ -14,7 +14,7 @@ use std::alloc::Global;
 use text_core::{Code, Items, Names, PassError, SourceError, Span};
 
 /// The forms that are built. Whoever builds a form puts its word here.
-pub(crate) const BUILT: [Form; 37] = [
+pub(crate) const BUILT: [Form; 39] = [
     // ---- declared types
     Form::Struct,
     Form::Enum,
@@ -30,6 +30,8 @@ pub(crate) const BUILT: [Form; 37] = [
     Form::Ensures,
     // ---- types and patterns
     Form::MachineType,
+    // A type in terms alone: elsewhere `type_check` refuses it.
+    Form::MathIntType,
     Form::LetMutable,
     Form::LetName,
     // ---- terms
@@ -41,6 +43,7 @@ pub(crate) const BUILT: [Form; 37] = [
     Form::NotTerm,
     Form::ViewTerm,
     Form::BinaryTerm,
+    Form::Forall,
     // ---- loops
     Form::Invariant,
     Form::While,

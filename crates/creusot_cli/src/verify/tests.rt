@@ -73,7 +73,7 @@ impl Call<'_> {
 }
 
 /// Sources and proofs, with the status and what is printed.
-const REPORTS: [(&[u8], &[u8], u8, &[u8]); 7] = [
+const REPORTS: [(&[u8], &[u8], u8, &[u8]); 9] = [
     (SOURCE, PROOFS, 0, REPORT),
     (
         WITHOUT_BOUND,
@@ -110,6 +110,18 @@ const REPORTS: [(&[u8], &[u8], u8, &[u8]); 7] = [
         b"creusot-proofs 1\nproof 1 up\nintro n\nhyp 1.1\nend\nproof 2 up\nintro n i\nrange i\nrange n\nsplit\nlin 1:goal 1:2.1\nlin 1:goal 1:1.3 1:3.2\nend\nproof 3 up\nintro n i v\nlin 1:goal 1:1.3 1:1.4\nend\nproof 4 up\nintro n i\nlin 1:goal 1:1.3\nend\n",
         0,
         b"verified up\nsummary functions 1 verified 1 obligations 4 proved 4\n",
+    ),
+    (
+        b"#[ensures(forall<k: Int> k <= result@ ==> k <= x@)]\nfn id(x: i32) -> i32 { x }\n",
+        b"creusot-proofs 1\nproof 1 id\nintro x k\nhyp 1.1\nend\n",
+        0,
+        b"verified id\nsummary functions 1 verified 1 obligations 1 proved 1\n",
+    ),
+    (
+        b"fn up(n: i32) { let mut i: i32 = 0; #[invariant(forall<k: Int> k <= i@ ==> k < i@ + 1)] while i < n { i += 1; } }\n",
+        b"creusot-proofs 1\nproof 1 up\nintro n k\nlin 1:goal 1:1.1\nend\nproof 2 up\nintro n i\nrange i\nrange n\nsplit\nlin 1:goal 1:2.1\nlin 1:goal 1:1.2 1:3.2\nend\nproof 3 up\nintro n i v k\nlin 1:goal 1:1.4\nend\n",
+        0,
+        b"verified up\nsummary functions 1 verified 1 obligations 3 proved 3\n",
     ),
 ];
 
@@ -211,7 +223,7 @@ const NOT_BUILT: [(&[u8], &[u8]); 23] = [
         b"error E20 15..27 line 1\n",
     ),
     (
-        b"#[requires(forall<i: u32> i == x)] fn f(x: u32) {}",
+        b"#[requires(exists<i: u32> i == x)] fn f(x: u32) {}",
         b"error E20 11..17 line 1\n",
     ),
     (

@@ -1,38 +1,44 @@
-use Rattle.std.proofs.Common.{◌≡◌, ◌+◌, ◌*◌, ◌∙◌, arith}
+use Rattle.std.proofs.Common.{◌≡◌, ◌+◌, ◌*◌, ◌∙◌, [], arith, rules}
 use Rattle.std.proofs.lemmas.Result.{err_from_is_err_and}
-use Rattle.source_trees.specs.PtermView.{pterm_size}
+use Rattle.source_trees.specs.PtermView.{pterm_size, span_of}
+use Rattle.logic_elab.specs.Binders.{inside}
 use Rattle.logic_elab.proofs.Stops.{along}
 use Rattle.logic_elab.proofs.Chains.{climbed_refuses, sizes_up, up, up_refuses}
 use Rattle.logic_elab.proofs.elaborating.+elaborate.Goals as goal
 
-pub elaborate-returns-in_err-made : goal.elaborate-returns-in_err-made
-elaborate-returns-in_err-made g t c =
+pub elaborate_under-returns-in_err-made : goal.elaborate_under-returns-in_err-made
+elaborate_under-returns-in_err-made g t c =
     let f = c.in_err-made.field-0.0 in
     let p = err_from_is_err_and c.from_residual-in_err-made.result c.from_residual-in_err-made.ensures.1 in
     rw (p.1, p.2)
-    (along f _ _ (c.in_ok-operations.ensures.elaborated (g.S.TermScope.scope c.args.scope.now))
-    (climbed_refuses (g.S.TermScope.scope c.args.scope.now) f c.in_ok-operations.field-0.operations.items _ c.in_err-made.ensures))
+    (along f _ _ (c.in_ok-operations.ensures.elaborated (g.S.TermScope.scope c.args.scope.now) (inside [] c.args.bound.now))
+    (climbed_refuses (g.S.TermScope.scope c.args.scope.now) (inside [] c.args.bound.now) f c.in_ok-operations.field-0.operations.items _ c.in_err-made.ensures))
 
-pub elaborate-elaborate_behind-requires : goal.elaborate-elaborate_behind-requires
-elaborate-elaborate_behind-requires g t c =
+pub elaborate_under-elaborate_behind-requires : goal.elaborate_under-elaborate_behind-requires
+elaborate_under-elaborate_behind-requires g t c =
     let measure : 4 * pterm_size c.args.t.now + 1 ≡ t = c.decreases in
     let sizes = sizes_up c.pop.new.self.items c.loop-operation.operations.items c.in-Some.operation _ c.in-Some.ensures.items c.loop-operation.invariant.smaller in
     λ κs within. (omega (arith, measure, sizes.1), within)
 
-pub elaborate-returns-in_err-made-2 : goal.elaborate-returns-in_err-made-2
-elaborate-returns-in_err-made-2 g t c =
+pub elaborate_under-returns-in_err-made-2 : goal.elaborate_under-returns-in_err-made-2
+elaborate_under-returns-in_err-made-2 g t c =
     let f = c.in_err-made-2.field-0.0 in
     let p = err_from_is_err_and c.from_residual-in_err-made-2.result c.from_residual-in_err-made-2.ensures.1 in
     rw (p.1, p.2)
     (along f _ _ c.loop-operation.invariant.so_far
-    (up_refuses (g.S.TermScope.scope c.args.scope.now) f c.pop.new.self.items c.loop-operation.operations.items c.in-Some.operation c.loop-operation.made c.in-Some.ensures.items c.in_err-made-2.ensures))
+    (up_refuses (g.S.TermScope.scope c.args.scope.now) (inside [] c.args.bound.now) f c.pop.new.self.items c.loop-operation.operations.items c.in-Some.operation c.loop-operation.made c.in-Some.ensures.items c.in_err-made-2.ensures))
 
-pub elaborate-loop-operation-preserved : goal.elaborate-loop-operation-preserved
-elaborate-loop-operation-preserved g t c =
+pub elaborate_under-loop-operation-preserved : goal.elaborate_under-loop-operation-preserved
+elaborate_under-loop-operation-preserved g t c =
     let sizes = sizes_up c.pop.new.self.items c.loop-operation.operations.items c.in-Some.operation _ c.in-Some.ensures.items c.loop-operation.invariant.smaller in
     record {
       so_far =
           c.loop-operation.invariant.so_far
-          ∙ up (g.S.TermScope.scope c.args.scope.now) c.pop.new.self.items c.loop-operation.operations.items c.in-Some.operation c.loop-operation.made c.in_ok-made-2.made c.in-Some.ensures.items c.in_ok-made-2.ensures;
+          ∙ up (g.S.TermScope.scope c.args.scope.now) (inside [] c.args.bound.now) c.pop.new.self.items c.loop-operation.operations.items c.in-Some.operation c.loop-operation.made c.in_ok-made-2.made c.in-Some.ensures.items c.in_ok-made-2.ensures;
       smaller = sizes.0;
     }
+
+pub elaborate_form-returns-in-Quantified-Forall-default-default : goal.elaborate_form-returns-in-Quantified-Forall-default-default
+elaborate_form-returns-in-Quantified-Forall-default-default g t c =
+    let h = c.elaborate_forall.ensures (span_of c.args.t.now) in
+    search (rules, h)

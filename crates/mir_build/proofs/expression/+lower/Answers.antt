@@ -1,4 +1,5 @@
-use Rattle.std.proofs.Common.{◌≡◌, Bool, true, false, List, [], ◌∷◌, ◌++◌, ◌∙◌, ap, sym, length, arith, append_assoc}
+use Rattle.std.proofs.Common.{◌≡◌, refl, Bool, true, false, List, [], ◌∷◌, ◌++◌, ◌∙◌, ap, sym, length, arith, append_assoc}
+use Rattle.std.proofs.lemmas.Result.{err_from_is_err_and}
 use Rattle.type_check.specs.TypedExpr.{done, last, leaving}
 use Rattle.mir_ir.specs.declared.place.Place.{Place}
 use Rattle.mir_build.specs.Lowering.{Around, binds}
@@ -86,6 +87,13 @@ lower_rest-loop-statement-preserved t c =
       scope = front_on b old x n known.before (around c.if-statement.c) which.2 ∙ known.scope;
       loops = loops_on b old x n known.before (around c.if-statement.c) which.2 ∙ known.loops;
     }
+
+pub lower_rest-returns-in_err-t-clause-limit : goal.lower_rest-returns-in_err-t-clause-limit
+lower_rest-returns-in_err-t-clause-limit t c =
+    let st = c.statement-item.result in
+    let here = labels_at c.args.statements.now c.loop-statement.statement-index st (end_of c.args.end) c.statement-item.is c.loop-statement-test.true st.binds refl in
+    let p = err_from_is_err_and c.from_residual.result c.from_residual.ensures.1 in
+    rw (p.1, p.2) (λ e. omega (arith, here, c.in_err-t.ensures.limit e, c.loop-statement.invariant.labels))
 
 pub lower_rest-returns-clause-text : goal.lower_rest-returns-clause-text
 lower_rest-returns-clause-text t c =

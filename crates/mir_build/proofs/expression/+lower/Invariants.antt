@@ -62,6 +62,15 @@ decreases-lower_until_break l = 8 * typed_size l.x.now + 4
 abbrev pub decreases-lower_call : goal.decreases-lower_call
 decreases-lower_call l = 8 * exprs_size (exprs_of l.es.now) + 5
 
+abbrev pub decreases-lower_make : goal.decreases-lower_make
+decreases-lower_make l = 8 * exprs_size (exprs_of l.es.now) + 5
+
+abbrev pub decreases-lower_neg : goal.decreases-lower_neg
+decreases-lower_neg l = 8 * typed_size l.x.now + 4
+
+abbrev pub decreases-lower_not : goal.decreases-lower_not
+decreases-lower_not l = 8 * typed_size l.x.now + 4
+
 abbrev pub decreases-lower_args : goal.decreases-lower_args
 decreases-lower_args l = 8 * exprs_size (exprs_of l.es.now)
 

@@ -23,7 +23,7 @@ returns-else-place-tokens-clause-ok c =
     let test = c.if-place-tokens.false in
     let whole : after ≡ length c.args.tokens.now = grind (arith, nat_tests, value, test) in
     let names = subst (λ (s : Standing). GivesNames c.args.names.now s.bytes c.parse_term.new.names) c.new-cursor.ensures c.in-Ok.ensures.names in
-    read_whole c.args.names.now c.parse_term.new.names c.args.text.now c.args.tokens.now c.in-Ok.term after c.requires.short c.requires.whole names spelled whole
+    read_whole c.args.names.now c.parse_term.new.names c.args.text.now c.args.tokens.now c.in-Ok.term after c.requires.short c.requires.whole c.requires.filled names spelled whole
 
 pub returns-in-Err-clause-refused : goal.returns-in-Err-clause-refused
 returns-in-Err-clause-refused c = λ e is.

@@ -1,7 +1,7 @@
 use Rattle.std.proofs.Common.{arith}
 use Rattle.std.proofs.lemmas.Result.{err_from_is_err_and}
 use Rattle.verify_core.specs.Prepared.{IsPastLimit}
-use Rattle.verify_core.proofs.PassLaws.{lowered_as, lowered_with, lowering_refused, obligations_refused, paths_refused, tables_are, walkable, laid_out}
+use Rattle.verify_core.proofs.PassLaws.{lowered_as, lowered_with, lowering_refused, obligations_refused, paths_refused, plain_of, tables_are, walkable, laid_out}
 use Rattle.verify_core.proofs.preparing.prepare.Goals as goal
 
 pub returns-then-source-gt-SOURCE_BYTES-clause-refused : goal.returns-then-source-gt-SOURCE_BYTES-clause-refused
@@ -15,6 +15,7 @@ returns-in_err-lowered-clause-refused c =
 pub check_all_paths-requires : goal.check_all_paths-requires
 check_all_paths-requires c =
     laid_out c.typed_source.new.names c.into_decls.result c.in_ok-typed.typed c.in_ok-lowered.lowered c.in_ok-lowered.ensures.lowered c.in_ok-typed.ensures.fits
+    (plain_of c.args.source.now c.typed_source.new.names c.in_ok-typed.typed c.in_ok-typed.ensures.ok.typed_as)
 
 pub returns-in_err-check_all_paths-clause-refused : goal.returns-in_err-check_all_paths-clause-refused
 returns-in_err-check_all_paths-clause-refused c =
@@ -24,7 +25,9 @@ returns-in_err-check_all_paths-clause-refused c =
     c.in_ok-lowered.ensures.few c.in_err-check_all_paths.ensures.err)
 
 pub check_obligations-requires : goal.check_obligations-requires
-check_obligations-requires c = walkable c.typed_source.new.names c.into_decls.result c.in_ok-typed.typed c.in_ok-lowered.lowered c.in_ok-lowered.ensures.lowered c.in_ok-typed.ensures.fits
+check_obligations-requires c =
+    walkable c.typed_source.new.names c.into_decls.result c.in_ok-typed.typed c.in_ok-lowered.lowered c.in_ok-lowered.ensures.lowered c.in_ok-typed.ensures.fits
+    (plain_of c.args.source.now c.typed_source.new.names c.in_ok-typed.typed c.in_ok-typed.ensures.ok.typed_as)
 
 pub returns-in_err-check_obligations-clause-refused : goal.returns-in_err-check_obligations-clause-refused
 returns-in_err-check_obligations-clause-refused c =
@@ -34,7 +37,9 @@ returns-in_err-check_obligations-clause-refused c =
     c.in_ok-lowered.ensures.few c.in_ok-check_all_paths.ensures.ok c.in_err-check_obligations.ensures.err)
 
 pub all_owed-requires : goal.all_owed-requires
-all_owed-requires c = walkable c.typed_source.new.names c.into_decls.result c.in_ok-typed.typed c.in_ok-lowered.lowered c.in_ok-lowered.ensures.lowered c.in_ok-typed.ensures.fits
+all_owed-requires c =
+    walkable c.typed_source.new.names c.into_decls.result c.in_ok-typed.typed c.in_ok-lowered.lowered c.in_ok-lowered.ensures.lowered c.in_ok-typed.ensures.fits
+    (plain_of c.args.source.now c.typed_source.new.names c.in_ok-typed.typed c.in_ok-typed.ensures.ok.typed_as)
 
 pub returns-clause-ok : goal.returns-clause-ok
 returns-clause-ok c =

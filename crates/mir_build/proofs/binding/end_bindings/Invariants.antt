@@ -1,7 +1,7 @@
 use Rattle.std.proofs.Common.{◌≡◌, take, drop, length}
 use Rattle.mir_build.specs.Built.{written}
 use Rattle.mir_build.specs.Bindings.{all_die}
-use Rattle.mir_build.proofs.expression.end_bindings.Given as goal
+use Rattle.mir_build.proofs.binding.end_bindings.Given as goal
 
 abbrev pub invariant-loop-span : goal.invariant-loop-span
 invariant-loop-span l = record {

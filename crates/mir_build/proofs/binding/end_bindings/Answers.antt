@@ -5,7 +5,7 @@ use Rattle.mir_build.specs.Built.{written}
 use Rattle.mir_build.specs.Bindings.{all_die}
 use Rattle.mir_build.proofs.Runs.{written-append}
 use Rattle.mir_build.proofs.Bindings.{one_more}
-use Rattle.mir_build.proofs.expression.end_bindings.Goals as goal
+use Rattle.mir_build.proofs.binding.end_bindings.Goals as goal
 
 pub loop-span-preserved : goal.loop-span-preserved
 loop-span-preserved c =

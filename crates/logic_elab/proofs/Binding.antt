@@ -1,0 +1,43 @@
+-- What quantifiers bind: types with arguments, and what is bound around a term, from its outside.
+use Rattle.std.proofs.Common.{◌≡◌, ◌≤◌, ◌∙◌, List, [], ◌∷◌, ◌++◌, length, Option, Err, refl, ap, sym, arith}
+use Rattle.text_core.specs.declared.name.Name.{Name}
+use Rattle.text_core.specs.declared.span.Span.{Span}
+use Rattle.logic_term.specs.Term.{Term, forall}
+use Rattle.source_trees.specs.declared.path.Segment.{Segment}
+use Rattle.source_trees.specs.declared.types.TypeArgument.{TypeArgument}
+use Rattle.source_trees.specs.declared.types.TypeArgument.TheVariants as argument
+use Rattle.source_trees.specs.TypeTree.{named}
+use Rattle.source_trees.specs.TypeTreeView.{type_arguments_of}
+use Rattle.logic_elab.specs.declared.scope.Symbol.{Symbol}
+use Rattle.logic_elab.specs.Answers.{unbuilt}
+use Rattle.logic_elab.specs.Binders.{under_one, meant_under, inside, written_sort, for_all}
+
+-- a type with arguments is not built
+pub with_arguments : (s : Span) (x : Segment) (arguments : List TypeArgument) → 1 ≤ length arguments → written_sort (named s x (type_arguments_of arguments)) ≡ Err (unbuilt s)
+unfolding written_sort
+with_arguments s x [] h = absurd (omega arith)
+with_arguments s x (argument.Lifetime l ∷ rest) h = refl
+with_arguments s x (argument.Type w ∷ rest) h = refl
+
+-- two lists of what is bound, one in the other
+pub inside_both : (cs bs xs : List Symbol) → inside cs (bs ++ xs) ≡ inside (inside cs bs) xs
+inside_both cs [] xs = refl
+inside_both cs (b ∷ bs) xs = inside_both (b ∷ cs) bs xs
+
+-- what a name means, from the outside
+pub meant_inside : (x : Name) (cs bs : List Symbol) (o : Option Symbol) → meant_under x (inside cs bs) o ≡ meant_under x (inside [] bs) (meant_under x cs o)
+meant_inside x cs [] o = refl
+meant_inside x cs (b ∷ bs) o = meant_inside x (b ∷ cs) bs o ∙ sym (meant_inside x (b ∷ []) bs (meant_under x cs o))
+
+abbrev pub meant_from : Name → List Symbol → Option Symbol → Option Symbol
+meant_from x [] o = o
+meant_from x (b ∷ bs) o = meant_from x bs (under_one x b o)
+
+pub from_outside : (x : Name) (bs : List Symbol) (o : Option Symbol) → meant_from x bs o ≡ meant_under x (inside [] bs) o
+from_outside x [] o = refl
+from_outside x (b ∷ bs) o = from_outside x bs (under_one x b o) ∙ sym (meant_inside x (b ∷ []) bs o)
+
+-- the innermost first
+pub for_all_last : (xs : List Symbol) (x : Symbol) (p : Term) → for_all (xs ++ x ∷ []) p ≡ for_all xs (forall x.name x.sort p)
+for_all_last [] x p = refl
+for_all_last (y ∷ ys) x p = ap (forall y.name y.sort) (for_all_last ys x p)

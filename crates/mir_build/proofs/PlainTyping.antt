@@ -1,0 +1,112 @@
+-- Typing of plain trees: that of `IsWellTyped` where each type is scalar and no tuple is made or taken apart. What is proved of bodies speaks of them.
+use Rattle.std.proofs.Common.{◌≡◌, ◌⊎◌, inl, inr, true, false, List, [], ◌∷◌, ◌++◌, length, Some, slice_get}
+use Rattle.source_kinds.specs.declared.kinds.IntKind.{IntKind}
+use Rattle.source_kinds.specs.Range.{fits}
+use Rattle.logic_term.specs.Ty.{Ty, int, bool}
+use Rattle.type_check.specs.declared.program.Signature.{Signature}
+use Rattle.type_check.specs.declared.program.TypedFunction.{TypedFunction}
+use Rattle.type_check.specs.Breaks.{breaks}
+use Rattle.type_check.specs.Leaves.{leaves}
+use Rattle.type_check.specs.Plain.{IsScalar, AllScalar, IsPlain, StatementsArePlain, ArePlain, FunctionIsPlain}
+use Rattle.type_check.specs.TypedExpr.{TypedExpr, TypedStmts, TypedExprs, integer, truth, variable, negative, denied, binary, lazy, assign, update, call, make, part, block, branch, choice, repeat, panics, returned, endless, until_break, break_off, go_on, done, last, leaving, bind, run, none, more}
+use Rattle.type_check.specs.TypedExprView.{ty_of}
+use Rattle.type_check.specs.WellTyped.{unit, is_signed, operation_ty, EachSpeaks, Surroundings, looping, outside, surroundings_of, IsOf, IsOfOrLeaves, ClausesSpeak, IsWellTyped, StatementsFit, ArgumentsFit, FunctionFits}
+
+-- it has the type, or never a value, whichever scalar type is asked
+abbrev pub IsScalarOrLeaves : Ty → TypedExpr → Type 0
+IsScalarOrLeaves t e = IsOf t e ⊎ ((leaves e ≡ true) × IsScalar t)
+
+abbrev mutual
+  pub IsPlainlyTyped : Surroundings → List Ty → TypedExpr → Type 0
+  IsPlainlyTyped σ Γ (integer t s z k) = (t ≡ int k) × (fits k z ≡ true)
+  IsPlainlyTyped σ Γ (truth t s b) = t ≡ bool
+  IsPlainlyTyped σ Γ (variable t s x) = slice_get Γ x ≡ Some t
+  IsPlainlyTyped σ Γ (negative t s e) = (k : IntKind) × (is_signed k ≡ true) × (t ≡ int k) × IsOf (int k) e × IsPlainlyTyped σ Γ e
+  IsPlainlyTyped σ Γ (denied t s e) = (t ≡ bool) × IsOf bool e × IsPlainlyTyped σ Γ e
+  IsPlainlyTyped σ Γ (binary t s op a b) = (operation_ty op (ty_of a) ≡ Some t) × IsOf (ty_of a) b × IsPlainlyTyped σ Γ a × IsPlainlyTyped σ Γ b
+  IsPlainlyTyped σ Γ (lazy t s op a b) = (t ≡ bool) × IsOf bool a × IsOf bool b × IsPlainlyTyped σ Γ a × IsPlainlyTyped σ Γ b
+  IsPlainlyTyped σ Γ (assign t s a e) = (t ≡ unit) × IsOf (ty_of a) e × IsPlainlyTyped σ Γ a × IsPlainlyTyped σ Γ e
+  IsPlainlyTyped σ Γ (update t s op a e) = (t ≡ unit) × IsOf (ty_of a) e × (operation_ty op (ty_of e) ≡ Some (ty_of e)) × IsPlainlyTyped σ Γ a × IsPlainlyTyped σ Γ e
+  IsPlainlyTyped σ Γ (call t s f es) = (g : Signature) × (slice_get σ.signatures f ≡ Some g) × (t ≡ g.answer) × ArgumentsFitPlainly σ Γ es g.params
+  IsPlainlyTyped σ Γ (make t s c es) = ⊥
+  IsPlainlyTyped σ Γ (part t s e n) = ⊥
+  IsPlainlyTyped σ Γ (block t s ss) = StatementsFitPlainly σ Γ t ss
+  IsPlainlyTyped σ Γ (branch t s c a) = (t ≡ unit) × IsOf bool c × IsOf unit a × IsPlainlyTyped σ Γ c × IsPlainlyTyped σ Γ a
+  -- a side that leaves fits any type
+  IsPlainlyTyped σ Γ (choice t s c a b) = IsOf bool c × IsScalarOrLeaves t a × IsScalarOrLeaves t b × IsPlainlyTyped σ Γ c × IsPlainlyTyped σ Γ a × IsPlainlyTyped σ Γ b
+  IsPlainlyTyped σ Γ (repeat t s is c b) = (t ≡ unit) × EachSpeaks (length Γ) is × IsOf bool c × IsOf unit b × IsPlainlyTyped (outside σ) Γ c × IsPlainlyTyped (looping σ) Γ b
+  -- what leaves is of any scalar type
+  IsPlainlyTyped σ Γ (panics t s k) = IsScalar t
+  IsPlainlyTyped σ Γ (returned t s e) = IsScalar t × IsOf σ.answer e × IsPlainlyTyped σ Γ e
+  IsPlainlyTyped σ Γ (endless t s is b) = IsScalar t × (breaks b ≡ false) × EachSpeaks (length Γ) is × IsOf unit b × IsPlainlyTyped (looping σ) Γ b
+  IsPlainlyTyped σ Γ (until_break t s is b) = (t ≡ unit) × (breaks b ≡ true) × EachSpeaks (length Γ) is × IsOf unit b × IsPlainlyTyped (looping σ) Γ b
+  IsPlainlyTyped σ Γ (break_off t s) = IsScalar t × (σ.in_loop ≡ true)
+  IsPlainlyTyped σ Γ (go_on t s) = IsScalar t × (σ.in_loop ≡ true)
+
+  -- the statements of a block of the type, and its last expression
+  pub StatementsFitPlainly : Surroundings → List Ty → Ty → TypedStmts → Type 0
+  StatementsFitPlainly σ Γ t done = t ≡ unit
+  StatementsFitPlainly σ Γ t (last e) = IsOf t e × IsPlainlyTyped σ Γ e
+  StatementsFitPlainly σ Γ t (leaving e) = IsScalar t × (leaves e ≡ true) × IsPlainlyTyped σ Γ e
+  StatementsFitPlainly σ Γ t (bind e ss) = IsPlainlyTyped σ Γ e × StatementsFitPlainly σ (Γ ++ ty_of e ∷ []) t ss
+  StatementsFitPlainly σ Γ t (run e ss) = IsPlainlyTyped σ Γ e × StatementsFitPlainly σ Γ t ss
+
+  -- one argument for each parameter
+  pub ArgumentsFitPlainly : Surroundings → List Ty → TypedExprs → List Ty → Type 0
+  ArgumentsFitPlainly σ Γ none [] = Unit {0}
+  ArgumentsFitPlainly σ Γ (more e es) (t ∷ ts) = IsOf t e × IsPlainlyTyped σ Γ e × ArgumentsFitPlainly σ Γ es ts
+  ArgumentsFitPlainly σ Γ _ _ = ⊥
+
+pub record FunctionFitsPlainly (σ : List Signature) (f : TypedFunction) : Type 0 where
+  pub params : AllScalar f.signature.params
+  pub answer : IsScalar f.signature.answer
+  pub clauses : ClausesSpeak (length f.signature.params) f.clauses
+  pub body : IsPlainlyTyped (surroundings_of σ f.signature) f.signature.params f.body
+  pub of_answer : IsOf f.signature.answer f.body
+
+-- ---- trees that fit and are plain
+
+side : (t : Ty) (e : TypedExpr) → IsScalar t → IsOfOrLeaves t e → IsScalarOrLeaves t e
+side t e s (inl h) = inl h
+side t e s (inr h) = inr (h.0, s)
+
+mutual
+  pub plainly : (σ : Surroundings) (Γ : List Ty) (e : TypedExpr) → IsPlain e → IsWellTyped σ Γ e → IsPlainlyTyped σ Γ e
+  plainly σ Γ (integer t s z k) p h = h
+  plainly σ Γ (truth t s b) p h = h
+  plainly σ Γ (variable t s x) p h = h
+  plainly σ Γ (negative t s e) p h = (h.0, h.1, h.2, h.3, plainly σ Γ e p.1 h.4)
+  plainly σ Γ (denied t s e) p h = (h.0, h.1, plainly σ Γ e p.1 h.2)
+  plainly σ Γ (binary t s op a b) p h = (h.0, h.1, plainly σ Γ a p.1 h.2, plainly σ Γ b p.2 h.3)
+  plainly σ Γ (lazy t s op a b) p h = (h.0, h.1, h.2, plainly σ Γ a p.1 h.3, plainly σ Γ b p.2 h.4)
+  plainly σ Γ (assign t s a e) p h = (h.0, h.1, plainly σ Γ a p.1 h.2, plainly σ Γ e p.2 h.3)
+  plainly σ Γ (update t s op a e) p h = (h.0, h.1, h.2, plainly σ Γ a p.1 h.3, plainly σ Γ e p.2 h.4)
+  plainly σ Γ (call t s f es) p h = (h.0, h.1, h.2, plain_arguments σ Γ es h.0.params p.1 h.3)
+  plainly σ Γ (make t s c es) p h = p
+  plainly σ Γ (part t s e n) p h = p
+  plainly σ Γ (block t s ss) p h = plain_statements σ Γ t ss p.0 p.1 h
+  plainly σ Γ (branch t s c a) p h = (h.0, h.1, h.2, plainly σ Γ c p.1 h.3, plainly σ Γ a p.2 h.4)
+  plainly σ Γ (choice t s c a b) p h = (h.0, side t a p.0 h.1, side t b p.0 h.2, plainly σ Γ c p.1 h.3, plainly σ Γ a p.2 h.4, plainly σ Γ b p.3 h.5)
+  plainly σ Γ (repeat t s is c b) p h = (h.0, h.1, h.2, h.3, plainly (outside σ) Γ c p.1 h.4, plainly (looping σ) Γ b p.2 h.5)
+  plainly σ Γ (panics t s k) p h = p
+  plainly σ Γ (returned t s e) p h = (p.0, h.1, plainly σ Γ e p.1 h.2)
+  plainly σ Γ (endless t s is b) p h = (p.0, h.1, h.2, h.3, plainly (looping σ) Γ b p.1 h.4)
+  plainly σ Γ (until_break t s is b) p h = (h.0, h.1, h.2, h.3, plainly (looping σ) Γ b p.1 h.4)
+  plainly σ Γ (break_off t s) p h = (p, h.1)
+  plainly σ Γ (go_on t s) p h = (p, h.1)
+
+  plain_statements : (σ : Surroundings) (Γ : List Ty) (t : Ty) (ss : TypedStmts) → IsScalar t → StatementsArePlain ss → StatementsFit σ Γ t ss → StatementsFitPlainly σ Γ t ss
+  plain_statements σ Γ t done s p h = h
+  plain_statements σ Γ t (last e) s p h = (h.0, plainly σ Γ e p h.1)
+  plain_statements σ Γ t (leaving e) s p h = (s, h.1, plainly σ Γ e p h.2)
+  plain_statements σ Γ t (bind e ss) s p h = (plainly σ Γ e p.0 h.0, plain_statements σ (Γ ++ ty_of e ∷ []) t ss s p.1 h.1)
+  plain_statements σ Γ t (run e ss) s p h = (plainly σ Γ e p.0 h.0, plain_statements σ Γ t ss s p.1 h.1)
+
+  plain_arguments : (σ : Surroundings) (Γ : List Ty) (es : TypedExprs) (ts : List Ty) → ArePlain es → ArgumentsFit σ Γ es ts → ArgumentsFitPlainly σ Γ es ts
+  plain_arguments σ Γ none [] p h = h
+  plain_arguments σ Γ none (t ∷ ts) p h = h
+  plain_arguments σ Γ (more e es) [] p h = h
+  plain_arguments σ Γ (more e es) (t ∷ ts) p h = (h.0, plainly σ Γ e p.0 h.1, plain_arguments σ Γ es ts p.1 h.2)
+
+pub fits_plainly : (σ : List Signature) (f : TypedFunction) → FunctionIsPlain f → FunctionFits σ f → FunctionFitsPlainly σ f
+fits_plainly σ f p h = record { params = p.params; answer = p.answer; clauses = h.clauses; body = plainly (surroundings_of σ f.signature) f.signature.params f.body p.body h.body; of_answer = h.of_answer }
