@@ -16,6 +16,7 @@ pub mod PartByPart
 pub mod Parts
 pub mod PlainParts
 pub mod PlainTrees
+pub mod PlainTypes
 pub mod PlainWhole
 pub mod Refusing
 pub mod Speaking

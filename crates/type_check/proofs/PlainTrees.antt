@@ -1,9 +1,9 @@
--- What typing gives of a source without tuples is plain, where the types around it are scalar.
-use Rattle.std.proofs.Common.{◌≡◌, ℕ, ◌==◌, Bool, true, false, List, [], ◌∷◌, ◌++◌, length, Option, Some, None, Ok, refl, ap, sym, subst}
-use Rattle.std.specs.Prelude.{slice_get, if◌then◌else◌}
+-- What typing gives of a source without tuples and structs is plain, where the types around it are scalar.
+use Rattle.std.proofs.Common.{◌≡◌, ℕ, Bool, true, false, List, [], ◌∷◌, ◌++◌, Option, Some, None, Ok, refl, ap, sym, subst}
+use Rattle.std.specs.Prelude.{slice_get}
 use Rattle.text_core.specs.declared.span.Span.{Span}
-use Rattle.source_kinds.specs.declared.kinds.IntKind.{IntKind}
-use Rattle.logic_term.specs.Ty.{Ty, int, bool}
+use Rattle.logic_term.specs.declared.declaration.AdtDecl.{AdtDecl}
+use Rattle.logic_term.specs.Ty.{Ty, bool}
 use Rattle.source_trees.specs.declared.operator.UnaryOp.TheVariants.{Neg, Not}
 use Rattle.source_trees.specs.declared.path.Segment.{Segment}
 use Rattle.source_trees.specs.declared.statement.StmtKind.{StmtKind}
@@ -11,7 +11,6 @@ use Rattle.source_trees.specs.declared.statement.StmtKind.TheVariants as kind
 use Rattle.source_trees.specs.Expr as E
 use Rattle.source_trees.specs.Expr.{Expr}
 use Rattle.source_trees.specs.ExprView.{span_of}
-use Rattle.source_trees.specs.TypeTree as W
 use Rattle.source_trees.specs.TypeTree.{TypeTree}
 use Rattle.type_check.specs.declared.heading.Callee.{Callee}
 use Rattle.type_check.specs.declared.heading.Heading.{Heading}
@@ -23,16 +22,17 @@ use Rattle.type_check.specs.Answers.{gather}
 use Rattle.type_check.specs.Functions.{callee}
 use Rattle.type_check.specs.Leaves.{leaves}
 use Rattle.type_check.specs.Plain.{IsScalar, AllScalar, IsPlain, ArePlain}
-use Rattle.type_check.specs.PlainSources.{IsPlainType, MayBePlainType, IsPlainKind, HasPlainForms, HavePlainForms, StatementsHavePlainForms}
+use Rattle.type_check.specs.PlainSources.{MayBePlainType, IsPlainKind, HasPlainForms, HavePlainForms, StatementsHavePlainForms}
 use Rattle.type_check.specs.Setting.{Setting, within_loop, looping, outside}
 use Rattle.type_check.specs.TypedExpr.{TypedExpr, TypedExprs}
 use Rattle.type_check.specs.TypedExpr as tree
 use Rattle.type_check.specs.TypedExprView.{ty_of, stmts_of}
 use Rattle.type_check.specs.Typing.{is_bare, order_of, operands, known, callee_of, first_of, rest_of, declared, Opened, opened, typed_stmt, behind, without_last, given, choice_ty, invariant_of, typed, typed_stmts, typed_args}
 use Rattle.type_check.specs.WellTyped.{unit, is_arithmetic}
-use Rattle.type_check.specs.Written.{as_name, name_alone, named_type, int_or_none, int_kinds, type_or, written_type, written_or_none, declared_by, step_of, answer_ty}
+use Rattle.type_check.specs.Written.{as_name, name_alone, written_type, written_or_none, declared_by, step_of, answer_ty}
 use Rattle.type_check.proofs.Bound.{bound, same_ok}
 use Rattle.type_check.proofs.Lookups.{types, signatures_at, callee_signature}
+use Rattle.type_check.proofs.PlainTypes.{written_scalar}
 use Rattle.type_check.proofs.PlainParts.{MayAskScalar, all_scalar_append, first_scalar, rest_scalar, given_scalar, plain_ty, fit_plain, literal_plain, named_plain, negated_plain, operated_plain, order_scalar, operands_plain, assigned_plain, updated_plain, called_plain, ValuesArePlain, stmts_plain, without_last_plain, closed_plain, choice_scalar, panicked_plain, returned_plain, bare_return_plain, endless_plain, break_plain, continue_plain}
 
 -- the types that stand around an expression are scalar: those of functions, of variables and of the answer
@@ -43,43 +43,26 @@ pub record ScalarAround (σ : Setting) (Γ : List Variable) : Type 0 where
 
 -- ---- written types
 
-int_scalar : (k : Option IntKind) (t : Ty) → int_or_none k ≡ Some t → IsScalar t
-int_scalar None t p = absurd (cc)
-int_scalar (Some k) t p = let q : int k ≡ t = cc in subst IsScalar q tt
+pub answer_scalar : (ds : List AdtDecl) (w : Option TypeTree) (t : Ty) → MayBePlainType w → answer_ty ds w ≡ Ok t → IsScalar t
+answer_scalar ds None t h p = subst IsScalar (same_ok _ _ p) tt
+answer_scalar ds (Some w) t h p = written_scalar ds w t h p
 
-choice_by_name : (b : Bool) (k : Option IntKind) (t : Ty) → (if b then Some bool else int_or_none k) ≡ Some t → IsScalar t
-choice_by_name true k t p = let q : bool ≡ t = cc in subst IsScalar q tt
-choice_by_name false k t p = int_scalar k t p
-
-named_scalar : (s : Span) (o : Option Ty) (t : Ty) → ((u : Ty) → o ≡ Some u → IsScalar u) → type_or s o ≡ Ok t → IsScalar t
-named_scalar s None t h p = absurd (cc)
-named_scalar s (Some u) t h p = subst IsScalar (same_ok _ _ p) (h u refl)
-
-pub written_scalar : (w : TypeTree) (t : Ty) → IsPlainType w → written_type w ≡ Ok t → IsScalar t
-written_scalar (W.named s x W.no_arguments) t h p = named_scalar s (named_type x.name) t (λ u q. choice_by_name (x.name.0 == length int_kinds) (slice_get int_kinds x.name.0) u q) p
-written_scalar (W.tuple s ws) t h p = absurd h
-written_scalar w t h p = absurd (cc)
-
-pub answer_scalar : (w : Option TypeTree) (t : Ty) → MayBePlainType w → answer_ty w ≡ Ok t → IsScalar t
-answer_scalar None t h p = subst IsScalar (same_ok _ _ p) tt
-answer_scalar (Some w) t h p = written_scalar w t h p
-
-written_may_scalar : (w : Option TypeTree) (t : Option Ty) → MayBePlainType w → written_or_none w ≡ Ok t → MayAskScalar t
-written_may_scalar None t h p = subst MayAskScalar (same_ok _ _ p) tt
-written_may_scalar (Some w) t h p =
-    let u = bound (written_type w) _ t p in
-    subst MayAskScalar (same_ok (Some u.0) t u.2) (written_scalar w u.0 h u.1)
+written_may_scalar : (ds : List AdtDecl) (w : Option TypeTree) (t : Option Ty) → MayBePlainType w → written_or_none ds w ≡ Ok t → MayAskScalar t
+written_may_scalar ds None t h p = subst MayAskScalar (same_ok _ _ p) tt
+written_may_scalar ds (Some w) t h p =
+    let u = bound (written_type ds w) _ t p in
+    subst MayAskScalar (same_ok (Some u.0) t u.2) (written_scalar ds w u.0 h u.1)
 
 -- ---- statements
 
-step_scalar : (k : StmtKind) (w : Step) → IsPlainKind k → step_of k ≡ Ok w → MayAskScalar w.expected
+step_scalar : (ds : List AdtDecl) (k : StmtKind) (w : Step) → IsPlainKind k → step_of ds k ≡ Ok w → MayAskScalar w.expected
 unfolding step_of
-step_scalar (kind.Let p w) r h q =
+step_scalar ds (kind.Let p w) r h q =
     let x = bound (declared_by p) _ r q in
-    let t = bound (written_or_none w) _ r x.2 in
-    subst (λ (r : Step). MayAskScalar r.expected) (same_ok (record { declares = Some x.0; expected = t.0 }) r t.2) (written_may_scalar w t.0 h t.1)
-step_scalar kind.Run r h q = subst (λ (r : Step). MayAskScalar r.expected) (same_ok (record { declares = None; expected = None }) r q) tt
-step_scalar kind.Blocklike r h q = subst (λ (r : Step). MayAskScalar r.expected) (same_ok (record { declares = None; expected = Some unit }) r q) tt
+    let t = bound (written_or_none ds w) _ r x.2 in
+    subst (λ (r : Step). MayAskScalar r.expected) (same_ok (record { declares = Some x.0; expected = t.0 }) r t.2) (written_may_scalar ds w t.0 h t.1)
+step_scalar ds kind.Run r h q = subst (λ (r : Step). MayAskScalar r.expected) (same_ok (record { declares = None; expected = None }) r q) tt
+step_scalar ds kind.Blocklike r h q = subst (λ (r : Step). MayAskScalar r.expected) (same_ok (record { declares = None; expected = Some unit }) r q) tt
 
 types_more : (Γ : List Variable) (v : Variable) → types (Γ ++ v ∷ []) ≡ types Γ ++ v.ty ∷ []
 types_more [] v = refl
@@ -147,6 +130,8 @@ mutual
       called_plain t s g.0 as'.0 r b.1 (args_plain σ Γ es g.0.signature.params as'.0 ho b.0 h as'.1) as'.2
   typed_plain σ Γ (E.tuple s es) t r ho ht h p = absurd h
   typed_plain σ Γ (E.part s e k) t r ho ht h p = absurd h
+  typed_plain σ Γ (E.field s e x ws) t r ho ht h p = absurd h
+  typed_plain σ Γ (E.literal s q fs) t r ho ht h p = absurd h
   typed_plain σ Γ (E.block s ss) t r ho ht h p =
       let o = bound (typed_stmts σ Γ ss) _ r p in
       closed_plain t s (without_last o.0.stmts) r ht (without_last_plain o.0.stmts (statements_plain σ Γ ss o.0 ho h o.1).0) o.2
@@ -198,10 +183,10 @@ mutual
   statements_plain : (σ : Setting) (Γ : List Variable) (ss : E.Stmts) (o : Opened) → ScalarAround σ Γ → StatementsHavePlainForms ss → typed_stmts σ Γ ss ≡ Ok o → ValuesArePlain o.stmts × ScalarAround σ o.scope
   statements_plain σ Γ E.no_stmts o ho h p = subst (λ (o : Opened). ValuesArePlain o.stmts × ScalarAround σ o.scope) (same_ok (opened Γ []) o p) (tt, ho)
   statements_plain σ Γ (E.with_stmt s k e ss) o ho h p =
-      let w = bound (step_of k) _ o p in
+      let w = bound (step_of σ.types k) _ o p in
       let a = bound (typed σ Γ e w.0.expected) _ o w.2 in
       let c = bound (typed_stmts σ (declared Γ w.0.declares a.0) ss) _ o a.2 in
-      let x = typed_plain σ Γ e w.0.expected a.0 ho (step_scalar k w.0 h.0 w.1) h.1 a.1 in
+      let x = typed_plain σ Γ e w.0.expected a.0 ho (step_scalar σ.types k w.0 h.0 w.1) h.1 a.1 in
       let rest = statements_plain σ (declared Γ w.0.declares a.0) ss c.0 (declared_scalar σ Γ w.0.declares a.0 ho (plain_ty a.0 x)) h.2 c.1 in
       subst (λ (o : Opened). ValuesArePlain o.stmts × ScalarAround σ o.scope) (same_ok (behind (typed_stmt w.0 a.0) c.0) o c.2) ((x, rest.0), rest.1)
 

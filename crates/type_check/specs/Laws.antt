@@ -16,6 +16,6 @@ CheckedProgramsFit = (ds : List AdtDecl) (is : List Item) (p : TypedProgram) →
 abbrev pub CheckedProgramsAreGood : Type 0
 CheckedProgramsAreGood = (ds : List AdtDecl) (is : List Item) (p : TypedProgram) → checked ds is ≡ Ok p → AllGood p
 
--- that of a source without tuples is over integers, truth values and unit alone
+-- that of a source without tuples and structs is over integers, truth values and unit alone
 abbrev pub CheckedPlainSourcesArePlain : Type 0
 CheckedPlainSourcesArePlain = (ds : List AdtDecl) (is : List Item) (p : TypedProgram) → ArePlainItems is → checked ds is ≡ Ok p → EachIsPlain p.functions

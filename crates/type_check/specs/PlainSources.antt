@@ -1,6 +1,7 @@
--- Sources in which no tuple stands, no part of one and no type of one (Rust Reference, "Tuple expressions", "Tuple indexing expressions", "Tuple types"); unit is
--- the tuple of no parts, and is not written there either. Of forms that have no typing nothing is said.
-use Rattle.std.specs.Prelude.{List, [], ◌∷◌, Option, Some, None}
+-- Sources in which no tuple stands, no struct is made and no part or field of either is taken (Rust Reference, "Tuple expressions", "Tuple indexing
+-- expressions", "Struct expressions", "Field access expressions"), and in which each written type is a word of types alone ("Types"); unit is the tuple of
+-- no parts, and is not written there either. Of other forms that have no typing nothing is said.
+use Rattle.std.specs.Prelude.{◌<◌, List, [], ◌∷◌, Option, Some, None}
 use Rattle.source_trees.specs.declared.item.Body.{Body}
 use Rattle.source_trees.specs.declared.item.Body.TheVariants as body
 use Rattle.source_trees.specs.declared.item.Function.{Function}
@@ -16,12 +17,14 @@ use Rattle.source_trees.specs.Expr as E
 use Rattle.source_trees.specs.Expr.{Expr}
 use Rattle.source_trees.specs.TypeTree as W
 use Rattle.source_trees.specs.TypeTree.{TypeTree}
+use Rattle.type_check.specs.Types.{word_count}
 
 -- ---- types
 
+-- a name without arguments that is one of the words of types, which are the first of each table of names
 abbrev pub IsPlainType : TypeTree → Type 0
-IsPlainType (W.tuple s ws) = ⊥
-IsPlainType _ = Unit {0}
+IsPlainType (W.named s x W.no_arguments) = x.name.0 < word_count
+IsPlainType _ = ⊥
 
 -- where one is written
 abbrev pub MayBePlainType : Option TypeTree → Type 0
@@ -38,6 +41,8 @@ abbrev mutual
   pub HasPlainForms : Expr → Type 0
   HasPlainForms (E.tuple s es) = ⊥
   HasPlainForms (E.part s e k) = ⊥
+  HasPlainForms (E.field s e x ws) = ⊥
+  HasPlainForms (E.literal s p fs) = ⊥
   HasPlainForms (E.unary s op o e) = HasPlainForms e
   HasPlainForms (E.binary s op o a b) = HasPlainForms a × HasPlainForms b
   HasPlainForms (E.lazy s op a b) = HasPlainForms a × HasPlainForms b

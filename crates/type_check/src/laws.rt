@@ -11,7 +11,8 @@ pub fn checked_programs_fit()
     ensures good { CheckedProgramsAreGood }
 {}
 
-/// The program that a source without tuples, parts and types of tuples comes to is over integers, truth values and unit alone.
+/// The program that a source comes to is over integers, truth values and unit alone, where no tuple and no struct is made in it, no part or field of
+/// one is taken, and each type in its functions is a word of types alone.
 pub fn checked_plain_sources_are_plain()
     ensures { CheckedPlainSourcesArePlain }
 {}

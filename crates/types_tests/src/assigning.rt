@@ -4,10 +4,16 @@ use std::alloc::Global;
 use std::process::Abort;
 use std::test::Fail;
 use text_core::{Code, Names, PassError};
-use type_check::check;
+use source_trees::Item;
+use type_check::{TypedProgram, check, declare};
 
 /// A source, and the code and the place of its refusal if it is refused.
 pub(crate) type Row = (&'static [u8], Option<(Code, u32, u32)>);
+
+fn passes(alloc: Global, items: &[Item]) -> Result<TypedProgram, PassError> {
+    let declared = declare(alloc, items)?;
+    check(alloc, items, &declared)
+}
 
 /// Whether the code of the source is answered so.
 fn is_right(alloc: Global, row: &Row) -> bool {
@@ -19,7 +25,7 @@ fn is_right(alloc: Global, row: &Row) -> bool {
     let Ok(items) = parse(alloc, source, &mut names) else {
         return false;
     };
-    match (check(alloc, items.as_slice()), row.1) {
+    match (passes(alloc, items.as_slice()), row.1) {
         (Ok(_), None) => true,
         (Err(PassError::Source(error)), Some((code, start, end))) => {
             error.code == code && error.span.start == start && error.span.end == end

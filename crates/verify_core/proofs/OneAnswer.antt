@@ -41,6 +41,10 @@ same_err e = cc
 ok_err : {A B : Type 0} {a : A} {b : B} → ◌≡◌ {A = Result A B} (Ok a) (Err b) → ⊥
 ok_err e = cc
 
+-- what items are typed as, with the types that they declare
+abbrev typing : List Item → Result TypedProgram SourceError
+typing is = checked (declared_types is) is
+
 module _ (source : List ℕ) where
   same_items : (t u : List (List ℕ)) (is js : List Item) → HasItems source t is → HasItems source u js → is ≡ js
   same_items t u is js h g = one_source [] source one_place_at_first is js h.spelled g.spelled
@@ -52,7 +56,7 @@ module _ (source : List ℕ) where
   same_tables t u p q a b = same_table t u a.items b.items a.has b.has
 
   same_typed : (t u : List (List ℕ)) (p q : TypedProgram) → IsTypedAs source t p → IsTypedAs source u q → p ≡ q
-  same_typed t u p q a b = same_ok (sym a.is_typed ∙ ap checked (same_items t u a.items b.items a.has b.has) ∙ b.is_typed)
+  same_typed t u p q a b = same_ok (sym a.is_typed ∙ ap typing (same_items t u a.items b.items a.has b.has) ∙ b.is_typed)
 
   -- ---- refusals
 
@@ -60,7 +64,7 @@ module _ (source : List ℕ) where
   typed_not_refused t p error a (IsRefused.by_form is) = not_refused [] source one_place_at_first a.items error a.has.spelled is
   typed_not_refused t p error a (IsRefused.by_declarations {table} {items} has first) =
       first_does_not_hold (declared_types items) (checks items) error (subst AreInOrder (same_items t table a.items items a.has has) a.in_order) first
-  typed_not_refused t p error a (IsRefused.by_types {table} {items} has order is) = ok_err (sym a.is_typed ∙ ap checked (same_items t table a.items items a.has has) ∙ is)
+  typed_not_refused t p error a (IsRefused.by_types {table} {items} has order is) = ok_err (sym a.is_typed ∙ ap typing (same_items t table a.items items a.has has) ∙ is)
 
   pub one_refusal : (one other : SourceError) → IsRefused source one → IsRefused source other → one ≡ other
   one_refusal one other (IsRefused.by_form h) (IsRefused.by_form g) = one_error [] source one_place_at_first one other h g
@@ -75,7 +79,7 @@ module _ (source : List ℕ) where
   one_refusal one other (IsRefused.by_types {table = t} {items = items} has order is) (IsRefused.by_declarations {table = u} {items = others} had first) =
       absurd (first_does_not_hold (declared_types items) (checks items) other order (subst (λ (is : List Item). IsFirst (declared_types is) (checks is) other) (same_items u t others items had has) first))
   one_refusal one other (IsRefused.by_types {table = t} {items = items} has order is) (IsRefused.by_types {table = u} {items = others} had also was) =
-      same_err (sym is ∙ ap checked (same_items t u items others has had) ∙ was)
+      same_err (sym is ∙ ap typing (same_items t u items others has had) ∙ was)
 
   -- ---- two lowerings
 

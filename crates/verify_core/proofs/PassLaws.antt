@@ -1,5 +1,5 @@
 -- What each pass needs, it is given; and where a pass refuses, the source is refused for a cause.
-use Rattle.std.proofs.Common.{◌≡◌, ◌∙◌, refl, sym, ap, subst, ℕ, zero, suc, ◌+◌, ◌<◌, ◌≤◌, ◌⊎◌, inl, inr, List, [], ◌++◌, length, get_or, Some, None, Ok, slice_get, add-one, arith}
+use Rattle.std.proofs.Common.{◌≡◌, ◌∙◌, refl, sym, ap, subst, ℕ, zero, suc, ◌+◌, ◌<◌, ◌≤◌, ◌⊎◌, inl, inr, List, [], ◌++◌, length, get_or, Some, None, Ok, Err, slice_get, add-one, arith}
 use Rattle.std.proofs.lemmas.Bool.{cases_lt}
 use Rattle.std.proofs.lemmas.List.{length-append, length-map}
 use Rattle.std.proofs.lemmas.Option.{slice_get_read}
@@ -89,13 +89,13 @@ pub declarations_refused : (source : List ℕ) (table : List (List ℕ)) (items 
 declarations_refused source table items e has (inl is) = rw is tt
 declarations_refused source table items e has (inr (r, is, first)) = rw is (IsRefused.by_declarations has first)
 
-pub types_refused : (source : List ℕ) (table : List (List ℕ)) (items : List Item) (e : PassError) → HasItems source table items → AreInOrder items → TypesRefuse e (checked items) → RefusesSource source (refusal_of e)
-types_refused source table items (errors.Source e) has order is = IsRefused.by_types has order is
-types_refused source table items (errors.Limit l) has order is = absurd is
-types_refused source table items errors.NoMemory has order is = tt
+pub types_refused : (source : List ℕ) (table : List (List ℕ)) (items : List Item) (ds : List AdtDecl) (e : PassError) → HasItems source table items → (ds ≡ declared_types items) × AreInOrder items → TypesRefuse e (checked ds items) → RefusesSource source (refusal_of e)
+types_refused source table items ds (errors.Source e) has (same, order) is = IsRefused.by_types has order (subst (λ (x : List AdtDecl). checked x items ≡ Err e) same is)
+types_refused source table items ds (errors.Limit l) has declares is = absurd is
+types_refused source table items ds errors.NoMemory has declares is = tt
 
-pub typed_as : (source : List ℕ) (table : List (List ℕ)) (items : List Item) (typed : TypedProgram) (ds : List AdtDecl) → HasItems source table items → (ds ≡ declared_types items) × AreInOrder items → checked items ≡ Ok typed → IsChecked source table typed ds
-typed_as source table items typed ds has (same, order) is = record { typed_as = record { items = items; has = has; in_order = order; is_typed = is }; declares = same }
+pub typed_as : (source : List ℕ) (table : List (List ℕ)) (items : List Item) (typed : TypedProgram) (ds : List AdtDecl) → HasItems source table items → (ds ≡ declared_types items) × AreInOrder items → checked ds items ≡ Ok typed → IsChecked source table typed ds
+typed_as source table items typed ds has (same, order) is = record { typed_as = record { items = items; has = has; in_order = order; is_typed = subst (λ (x : List AdtDecl). checked x items ≡ Ok typed) same is }; declares = same }
 
 pub lowered_with : (table : List (List ℕ)) (ds es : List AdtDecl) (typed : TypedProgram) (l : Lowered) → ds ≡ es → IsLowered table ds typed l → IsLowered table es typed l
 lowered_with table ds es typed l same lowered = subst (λ (x : List AdtDecl). IsLowered table x typed l) same lowered
@@ -104,11 +104,11 @@ lowered_with table ds es typed l same lowered = subst (λ (x : List AdtDecl). Is
 abbrev pub lowered_as : (source : List ℕ) (table : List (List ℕ)) (typed : TypedProgram) (ds : List AdtDecl) (l : Lowered) (h : IsChecked source table typed ds) → IsLowered table ds typed l → IsLowered table (declared_types h.typed_as.items) typed l
 lowered_as source table typed ds l h = subst (λ (x : List AdtDecl). IsLowered table x typed l) h.declares
 
-pub fits_of : (source : List ℕ) (table : List (List ℕ)) (typed : TypedProgram) → IsTypedAs source table typed → ProgramFits typed
-fits_of source table typed t = typed_program_fits t.items typed t.is_typed
+pub fits_of : (source : List ℕ) (table : List (List ℕ)) (typed : TypedProgram) → (t : IsTypedAs source table typed) → ProgramFits (declared_types t.items) typed
+fits_of source table typed t = typed_program_fits (declared_types t.items) t.items typed t.is_typed
 
 pub plain_of : (source : List ℕ) (table : List (List ℕ)) (typed : TypedProgram) → IsTypedAs source table typed → EachIsPlain typed.functions
-plain_of source table typed t = typed_program_is_plain t.items typed t.has.spelled.built t.is_typed
+plain_of source table typed t = typed_program_is_plain (declared_types t.items) t.items typed t.has.spelled.built t.is_typed
 
 pub lowering_refused : (source : List ℕ) (table : List (List ℕ)) (typed : TypedProgram) (e : PassError) → IsTypedAs source table typed → FailsFor (HasMoreBlocks typed 4096) e → RefusesSource source (refusal_of e)
 lowering_refused source table typed (errors.Source e) t fails = absurd fails
@@ -143,7 +143,7 @@ module _ (table : List (List ℕ)) where
       let inside : f < length cs.of = subst (λ (k : ℕ). f < k) (sym same) (within bs.bodies f call.0.0 call.0.2) in
       (got cs.of f inside, (call.0.1, call.0.5.1))
 
-  pub walkable : (ds : List AdtDecl) (typed : TypedProgram) (l : Lowered) → IsLowered table ds typed l → ProgramFits typed → EachIsPlain typed.functions → CanWalkAll l
+  pub walkable : (ds : List AdtDecl) (typed : TypedProgram) (l : Lowered) → IsLowered table ds typed l → ProgramFits ds typed → EachIsPlain typed.functions → CanWalkAll l
   walkable ds typed l lowered fits plain =
       let lowers : Lowers table ds typed.functions l.bodies l.contracts l.gone = record { lowers = lowered; fits = fits; plain = plain } in
       let sizes = as_many (signatures typed.functions) 0 typed.functions l.bodies.bodies l.contracts.of l.gone lowered.each in
@@ -159,7 +159,7 @@ module _ (table : List (List ℕ)) where
         };
       }
 
-  pub laid_out : (ds : List AdtDecl) (typed : TypedProgram) (l : Lowered) → IsLowered table ds typed l → ProgramFits typed → EachIsPlain typed.functions → AreLaidOut l.bodies
+  pub laid_out : (ds : List AdtDecl) (typed : TypedProgram) (l : Lowered) → IsLowered table ds typed l → ProgramFits ds typed → EachIsPlain typed.functions → AreLaidOut l.bodies
   laid_out ds typed l lowered fits plain n b is = bodies_are_laid_out table ds typed.functions l.bodies l.contracts l.gone (record { lowers = lowered; fits = fits; plain = plain }) n b is
 
 -- ---- one function

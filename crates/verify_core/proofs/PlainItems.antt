@@ -1,6 +1,9 @@
--- Where no form is found that is not in a set without the forms of tuples, no tuple stands, no part of one and no type of one.
-use Rattle.std.proofs.Common.{◌≡◌, ℕ, Bool, true, false, List, [], ◌∷◌, Option, Some, None, refl}
-use Rattle.std.specs.Prelude.{if◌then◌else◌}
+-- Where no form is found that is not in a set without the forms of tuples and structs and without the names of declared types, no tuple and no struct is
+-- made, no part or field of one is taken, and each written type is a word of types.
+use Rattle.std.proofs.Common.{◌≡◌, ◌∙◌, ℕ, ◌<◌, ◌==◌, Bool, true, false, List, [], ◌∷◌, Option, Some, None, refl, sym, ap, arith, true≢false}
+use Rattle.std.proofs.lemmas.Bool.Decides.{nat_tests}
+use Rattle.std.specs.Prelude.{nat_le, if◌then◌else◌}
+use Rattle.text_core.specs.declared.name.Name.{Name}
 use Rattle.text_core.specs.declared.span.Span.{Span}
 use Rattle.source_trees.specs.declared.item.Body.{Body}
 use Rattle.source_trees.specs.declared.item.Body.TheVariants as body
@@ -20,10 +23,11 @@ use Rattle.source_trees.specs.TypeTree.{TypeTree}
 use Rattle.source_forms.specs.declared.form.Form.{Form}
 use Rattle.source_forms.specs.declared.form.Form.TheVariants as form
 use Rattle.source_forms.specs.Forms.{is_among, ◌or_else◌, here, in_some, in_each}
-use Rattle.source_forms.specs.TypeForms.{unbuilt_type, unbuilt_types}
-use Rattle.source_forms.specs.ExprForms.{unbuilt_attribute, promises_before, unbuilt_param_node, unbuilt_param, unbuilt_kind, unbuilt_condition, call_form, unary_form, unbuilt_expr, unbuilt_exprs, unbuilt_stmts}
+use Rattle.source_forms.specs.TypeForms.{word_form, unbuilt_type, unbuilt_types, unbuilt_arguments, unbuilt_path}
+use Rattle.source_forms.specs.ExprForms.{unbuilt_attribute, promises_before, unbuilt_param_node, unbuilt_param, unbuilt_kind, unbuilt_condition, call_form, unary_form, unbuilt_expr, unbuilt_exprs, unbuilt_field_exprs, unbuilt_stmts}
 use Rattle.source_forms.specs.ItemForms.{unbuilt_generic, unbuilt_condition as unbuilt_where, unbuilt_body, unbuilt_function, promises_of, unbuilt_node, unbuilt_item, first_unbuilt}
 use Rattle.type_check.specs.PlainSources.{IsPlainType, MayBePlainType, IsPlainKind, HasPlainForms, HavePlainForms, StatementsHavePlainForms, IsPlainParam, ArePlainParams, IsPlainBody, IsPlainFunction, IsPlainItem, ArePlainItems}
+use Rattle.type_check.specs.Types.{word_count}
 use Rattle.verify_core.specs.Built.{is_built}
 
 -- nothing is found in the one part and nothing behind it
@@ -35,12 +39,45 @@ found : (b : Bool) (n : ℕ) → b ≡ false → (if b then None else Some n) �
 found true n e h = cc
 found false n e h = cc
 
-module _ (F : Form → Bool) (tuples : F form.Tuple ≡ false) (parts : F form.Part ≡ false) (types : F form.TupleType ≡ false) where
+-- in such a set no tuple and no struct is made or taken apart, and a written type is a word
+record IsWordy (F : Form → Bool) : Type 0 where
+  tuple : F form.Tuple ≡ false
+  part : F form.Part ≡ false
+  field : F form.Field ≡ false
+  literal : F form.Literal ≡ false
+  tuple_type : F form.TupleType ≡ false
+  named_type : F form.NamedType ≡ false
+  shared : F form.SharedReferenceType ≡ false
+  mutable : F form.MutableReferenceType ≡ false
+  self_type : F form.SelfType ≡ false
+  self_view : F form.SelfViewType ≡ false
+
+-- a name that is no word is one of a declared type
+word_or_named : (F : Form → Bool) (n : Name) → F form.NamedType ≡ false → (f : Form) → f ≡ word_form n → F f ≡ true → n.0 < word_count
+word_or_named F n named f same is = by (nat_le n.0 10) (n.0 == 11) refl refl same
+  where
+    by : (a b : Bool) → nat_le n.0 10 ≡ a → (n.0 == 11) ≡ b → f ≡ (if a then form.MachineType else (if b then form.MathIntType else form.NamedType)) → n.0 < word_count
+    by true b p q e = grind (arith, nat_tests)
+    by false true p q e = grind (arith, nat_tests)
+    by false false p q e = absurd (true≢false (sym is ∙ ap F e ∙ named))
+
+built : (b : Bool) (n : ℕ) → (if b then None else Some n) ≡ None → b ≡ true
+built true n e = refl
+built false n e = absurd (cc)
+
+module _ (F : Form → Bool) (wordy : IsWordy F) where
   -- ---- types
 
   plain_type : (w : TypeTree) → unbuilt_type F w ≡ None → IsPlainType w
-  plain_type (W.tuple s ws) h = absurd (found (F form.TupleType) s.start types (both (here F form.TupleType s) (unbuilt_types F ws) h).0)
-  plain_type w h = tt
+  plain_type (W.named s x W.no_arguments) h =
+      word_or_named F x.name wordy.named_type (word_form x.name) refl (built (F (word_form x.name)) s.start (both (here F (word_form x.name) s) None h).0)
+  plain_type (W.named s x (W.with_lifetime l ws)) h = absurd (found (F form.NamedType) s.start wordy.named_type (both (here F form.NamedType s) (unbuilt_arguments F ws) h).0)
+  plain_type (W.named s x (W.with_type w ws)) h = absurd (found (F form.NamedType) s.start wordy.named_type (both (here F form.NamedType s) (unbuilt_type F w or_else unbuilt_arguments F ws) h).0)
+  plain_type (W.tuple s ws) h = absurd (found (F form.TupleType) s.start wordy.tuple_type (both (here F form.TupleType s) (unbuilt_types F ws) h).0)
+  plain_type (W.reference s l false w) h = absurd (found (F form.SharedReferenceType) s.start wordy.shared (both (here F form.SharedReferenceType s) (unbuilt_type F w) h).0)
+  plain_type (W.reference s l true w) h = absurd (found (F form.MutableReferenceType) s.start wordy.mutable (both (here F form.MutableReferenceType s) (unbuilt_type F w) h).0)
+  plain_type (W.self_type s) h = absurd (found (F form.SelfType) s.start wordy.self_type h)
+  plain_type (W.self_view s) h = absurd (found (F form.SelfViewType) s.start wordy.self_view h)
 
   maybe_plain : (w : Option TypeTree) → in_some (unbuilt_type F) w ≡ None → MayBePlainType w
   maybe_plain None h = tt
@@ -59,8 +96,10 @@ module _ (F : Form → Bool) (tuples : F form.Tuple ≡ false) (parts : F form.P
 
   mutual
     plain_expr : (e : Expr) → unbuilt_expr F e ≡ None → HasPlainForms e
-    plain_expr (E.tuple s es) h = absurd (found (F form.Tuple) s.start tuples (both (here F form.Tuple s) (unbuilt_exprs F es) h).0)
-    plain_expr (E.part s e k) h = absurd (found (F form.Part) s.start parts (both (here F form.Part s) (unbuilt_expr F e) h).0)
+    plain_expr (E.tuple s es) h = absurd (found (F form.Tuple) s.start wordy.tuple (both (here F form.Tuple s) (unbuilt_exprs F es) h).0)
+    plain_expr (E.part s e k) h = absurd (found (F form.Part) s.start wordy.part (both (here F form.Part s) (unbuilt_expr F e) h).0)
+    plain_expr (E.field s e x ws) h = absurd (found (F form.Field) s.start wordy.field (both (here F form.Field s) (unbuilt_expr F e or_else in_each (unbuilt_type F) ws) h).0)
+    plain_expr (E.literal s p fs) h = absurd (found (F form.Literal) s.start wordy.literal (both (here F form.Literal s) (unbuilt_path F p.node or_else unbuilt_field_exprs F fs) h).0)
     plain_expr (E.unary s op o e) h = plain_expr e (both (here F (unary_form op) s) (unbuilt_expr F e) h).1
     plain_expr (E.binary s op o a b) h = let k = two (here F form.Binary s) a b h in (plain_expr a k.0, plain_expr b k.1)
     plain_expr (E.lazy s op a b) h = let k = two (here F form.Lazy s) a b h in (plain_expr a k.0, plain_expr b k.1)
@@ -135,10 +174,10 @@ module _ (F : Form → Bool) (tuples : F form.Tuple ≡ false) (parts : F form.P
   unfolding first_unbuilt
   none_unbuilt is h = plain_items is h
 
--- the forms of tuples are not built
-tuples_wait : (is_built form.Tuple ≡ false) × (is_built form.Part ≡ false) × (is_built form.TupleType ≡ false)
+-- none of these forms is built
+built_is_wordy : IsWordy is_built
 unfolding is_built is_among
-tuples_wait = (refl, refl, refl)
+built_is_wordy = record { tuple = refl; part = refl; field = refl; literal = refl; tuple_type = refl; named_type = refl; shared = refl; mutable = refl; self_type = refl; self_view = refl }
 
 pub built_items_are_plain : (is : List Item) → first_unbuilt is_built is ≡ None → ArePlainItems is
-built_items_are_plain is h = none_unbuilt is_built tuples_wait.0 tuples_wait.1 tuples_wait.2 is h
+built_items_are_plain is h = none_unbuilt is_built built_is_wordy is h

@@ -1,5 +1,6 @@
 -- What is derived is true; and each function that is verified is good.
 use Rattle.std.proofs.Common.{◌≡◌, sym, subst, ℕ, Bool, true, false, List, [], ◌∷◌, Some, None, slice_get, ◌∙◌, true≢false}
+use Rattle.logic_term.specs.declared.declaration.AdtDecl.{AdtDecl}
 use Rattle.logic_term.specs.declared.obligation.Contract.{Contract}
 use Rattle.logic_term.specs.declared.obligation.Obligation.{Obligation}
 use Rattle.mir_ir.specs.declared.body.Body.{Body}
@@ -46,12 +47,12 @@ use Rattle.mir_machine.specs.Code.{code_of}
 use Rattle.verify_core.proofs.Basics.{some_same}
 
 -- what passes the types fits
-pub typed_program_fits : (items : List Item) (p : TypedProgram) → checked items ≡ Ok p → ProgramFits p
-typed_program_fits items p e = answered_fits items (Ok p) e
+pub typed_program_fits : (ds : List AdtDecl) (items : List Item) (p : TypedProgram) → checked ds items ≡ Ok p → ProgramFits ds p
+typed_program_fits ds items p e = answered_fits ds items (Ok p) e
 
--- and is plain, since the forms of tuples are not built
-pub typed_program_is_plain : (items : List Item) (p : TypedProgram) → first_unbuilt is_built items ≡ None → checked items ≡ Ok p → EachIsPlain p.functions
-typed_program_is_plain items p built e = plain_program items p (built_items_are_plain items built) e
+-- and is plain, since the forms of tuples and structs and the names of declared types are not built
+pub typed_program_is_plain : (ds : List AdtDecl) (items : List Item) (p : TypedProgram) → first_unbuilt is_built items ≡ None → checked ds items ≡ Ok p → EachIsPlain p.functions
+typed_program_is_plain ds items p built e = plain_program ds items p (built_items_are_plain items built) e
 
 -- ---- what true obligations are worth
 
@@ -66,7 +67,7 @@ verified_at ps p f false tells e = absurd (true≢false (sym e))
 lowering : (source : List ℕ) (p : Program) → (prepared : IsPrepared source p) → Lowers p.names (declared_types prepared.is_typed.items) prepared.typed.functions p.bodies p.contracts prepared.gones
 lowering source p prepared =
     let t = prepared.is_typed in
-    record { lowers = prepared.lowers; fits = typed_program_fits t.items prepared.typed t.is_typed; plain = typed_program_is_plain t.items prepared.typed t.has.spelled.built t.is_typed }
+    record { lowers = prepared.lowers; fits = typed_program_fits (declared_types t.items) t.items prepared.typed t.is_typed; plain = typed_program_is_plain (declared_types t.items) t.items prepared.typed t.has.spelled.built t.is_typed }
 
 -- no proper call of a function of an accepted source is stuck
 pub accepted_is_never_stuck : (source : List ℕ) (p : Program) → IsPrepared source p → (Θ : Theory) (f : ℕ) (θ : Tys) (args held : List (Tree (Unit {0}))) (b : Body) (met : List Met) → IsProper Θ p.bodies f θ args held b met

@@ -64,7 +64,7 @@ pub record IsTypedAs (source : List ℕ) (table : List (List ℕ)) (typed : Type
   pub items : List Item
   pub has : HasItems source table items
   pub in_order : AreInOrder items
-  pub is_typed : checked items ≡ Ok typed
+  pub is_typed : checked (declared_types items) items ≡ Ok typed
 
 -- ---- obligations
 
@@ -132,7 +132,7 @@ pub record IsPrepared (source : List ℕ) (p : Program) : Type 0 where
 pub data IsRefused (source : List ℕ) (error : SourceError) : Type 0 where
   by_form : IsSourceError [] source (errors.Source error) → IsRefused source error
   by_declarations : {table : List (List ℕ)} {items : List Item} → HasItems source table items → IsFirst (declared_types items) (checks items) error → IsRefused source error
-  by_types : {table : List (List ℕ)} {items : List Item} → HasItems source table items → AreInOrder items → checked items ≡ Err error → IsRefused source error
+  by_types : {table : List (List ℕ)} {items : List Item} → HasItems source table items → AreInOrder items → checked (declared_types items) items ≡ Err error → IsRefused source error
 
 -- a quantity of the source is past its bound, and those that are counted before it are not
 pub data IsPastLimit (source : List ℕ) : Limit → Type 0 where

@@ -37,13 +37,13 @@ fn typed_source(
     requires short { length source.now ≤ 2 ^ 20 }
     requires empty { names.old ≡ [] }
     ensures ok { IfOk result (λ r. IsChecked source.now names.new r.0 r.1) }
-    ensures fits { IfOk result (λ r. ProgramFits r.0) }
+    ensures fits { IfOk result (λ r. ProgramFits r.1 r.0) }
     ensures good { IfOk result (λ r. AllGood r.0) }
     ensures refused { IfErr result (RefusesSource source.now) }
 {
     let items = built_items(alloc, source, names)?;
     let declared = declare(alloc, items.as_slice())?;
-    let typed = check(alloc, items.as_slice())?;
+    let typed = check(alloc, items.as_slice(), &declared)?;
     Ok((typed, declared.table))
 }
 

@@ -14,7 +14,9 @@ returns-in_err-lowered-clause-refused c =
 
 pub check_all_paths-requires : goal.check_all_paths-requires
 check_all_paths-requires c =
-    laid_out c.typed_source.new.names c.into_decls.result c.in_ok-typed.typed c.in_ok-lowered.lowered c.in_ok-lowered.ensures.lowered c.in_ok-typed.ensures.fits
+    laid_out c.typed_source.new.names c.in_ok-typed.table c.in_ok-typed.typed c.in_ok-lowered.lowered
+    (lowered_with c.typed_source.new.names c.into_decls.result c.in_ok-typed.table c.in_ok-typed.typed c.in_ok-lowered.lowered c.into_decls.ensures c.in_ok-lowered.ensures.lowered)
+    c.in_ok-typed.ensures.fits
     (plain_of c.args.source.now c.typed_source.new.names c.in_ok-typed.typed c.in_ok-typed.ensures.ok.typed_as)
 
 pub returns-in_err-check_all_paths-clause-refused : goal.returns-in_err-check_all_paths-clause-refused
@@ -26,7 +28,9 @@ returns-in_err-check_all_paths-clause-refused c =
 
 pub check_obligations-requires : goal.check_obligations-requires
 check_obligations-requires c =
-    walkable c.typed_source.new.names c.into_decls.result c.in_ok-typed.typed c.in_ok-lowered.lowered c.in_ok-lowered.ensures.lowered c.in_ok-typed.ensures.fits
+    walkable c.typed_source.new.names c.in_ok-typed.table c.in_ok-typed.typed c.in_ok-lowered.lowered
+    (lowered_with c.typed_source.new.names c.into_decls.result c.in_ok-typed.table c.in_ok-typed.typed c.in_ok-lowered.lowered c.into_decls.ensures c.in_ok-lowered.ensures.lowered)
+    c.in_ok-typed.ensures.fits
     (plain_of c.args.source.now c.typed_source.new.names c.in_ok-typed.typed c.in_ok-typed.ensures.ok.typed_as)
 
 pub returns-in_err-check_obligations-clause-refused : goal.returns-in_err-check_obligations-clause-refused
@@ -38,7 +42,9 @@ returns-in_err-check_obligations-clause-refused c =
 
 pub all_owed-requires : goal.all_owed-requires
 all_owed-requires c =
-    walkable c.typed_source.new.names c.into_decls.result c.in_ok-typed.typed c.in_ok-lowered.lowered c.in_ok-lowered.ensures.lowered c.in_ok-typed.ensures.fits
+    walkable c.typed_source.new.names c.in_ok-typed.table c.in_ok-typed.typed c.in_ok-lowered.lowered
+    (lowered_with c.typed_source.new.names c.into_decls.result c.in_ok-typed.table c.in_ok-typed.typed c.in_ok-lowered.lowered c.into_decls.ensures c.in_ok-lowered.ensures.lowered)
+    c.in_ok-typed.ensures.fits
     (plain_of c.args.source.now c.typed_source.new.names c.in_ok-typed.typed c.in_ok-typed.ensures.ok.typed_as)
 
 pub returns-clause-ok : goal.returns-clause-ok

@@ -19,9 +19,9 @@ pub returns-in_err-typed-clause-refused : goal.returns-in_err-typed-clause-refus
 returns-in_err-typed-clause-refused c =
     let p = err_from_is_err_and c.from_residual-in_err-typed.result c.from_residual-in_err-typed.ensures.1 in
     rw (p.1, p.2)
-    (types_refused c.args.source.now c.built_items.new.names c.in_ok-items.items c.in_err-typed.field-0.0
+    (types_refused c.args.source.now c.built_items.new.names c.in_ok-items.items c.in_ok-declared.declared.table c.in_err-typed.field-0.0
     (has_items c.args.source.now c.args.names.now c.built_items.new.names c.in_ok-items.items c.requires.empty c.in_ok-items.ensures.ok c.in_ok-items.ensures.few c.in_ok-items.ensures.names)
-    (rw c.as_slice.ensures at c.in_ok-declared.ensures.ok.1) (rw c.as_slice-2.ensures at c.in_err-typed.ensures.answers))
+    (rw c.as_slice.ensures at c.in_ok-declared.ensures.ok) (rw c.as_slice-2.ensures at c.in_err-typed.ensures.answers))
 
 pub returns-clause-ok : goal.returns-clause-ok
 returns-clause-ok c =
