@@ -70,7 +70,7 @@ const NOT_BUILT: [Row; 57] = [
         29,
         30,
     ),
-    (b"fn f() { let x: Int = 5; }", Code::E20, 16, 19),
+    (b"fn f() { let x: Int = 5; }", Code::E05, 16, 19),
     (b"#[requires(true)] struct S;", Code::E20, 0, 1),
     (
         b"#[requires(forall<x: Int> x == x)] struct S;",

@@ -514,7 +514,7 @@ const FORMS_THAT_HAVE_NO_TYPE_YET: [Row; 12] = [
     (b"fn f() { let _ = 1; }", Some((Code::E20, 13, 14))),
     (
         b"fn f() { let x: (i32, &bool) = y; }",
-        Some((Code::E20, 22, 27)),
+        Some((Code::E20, 16, 28)),
     ),
     (b"fn f(x: &i32) {}", Some((Code::E20, 8, 12))),
     (b"fn f<T>() {}", Some((Code::E20, 4, 7))),

@@ -1,5 +1,5 @@
 -- Fields and parts: where there are none, and that what is found has its type.
-use Rattle.std.proofs.Common.{◌≡◌, ◌∙◌, ℕ, zero, suc, ◌+◌, ◌^◌, Bool, true, false, List, [], ◌∷◌, Option, Some, None, Err, refl, ap, sym, subst, arith}
+use Rattle.std.proofs.Common.{◌≡◌, ◌∙◌, ℕ, zero, suc, ◌+◌, ◌^◌, ◌<◌, length, get_or, Bool, true, false, List, [], ◌∷◌, Option, Some, None, Err, refl, ap, sym, subst, arith}
 use Rattle.std.specs.Option.{option_map}
 use Rattle.std.specs.Prelude.{slice_get, ◌==◌, if◌then◌else◌}
 use Rattle.text_core.specs.declared.name.Name.{Name}
@@ -93,6 +93,10 @@ number_has_type ds t None p h = absurd (cc)
 number_has_type ds t (Some n) p h = part_has_type ds t n p h
 
 -- ---- what a literal makes
+
+pub first_got : (vs : List VariantDecl) (v : VariantDecl) → 0 < length vs → v ≡ get_or vs 0 v → slice_get vs 0 ≡ Some v
+first_got [] v h e = absurd (omega arith)
+first_got (w ∷ vs) v h e = ap Some (sym e)
 
 -- a struct that has a variant is made of its fields
 pub made_in_first : (ds : List AdtDecl) (t : Option Ty) (s : Span) (x : Segment) (n : ℕ) (d : AdtDecl) (v : VariantDecl) (ts : Option Tys) → d.is_struct ≡ true → slice_get d.variants 0 ≡ Some v → ts ≡ arguments_for d.params n t

@@ -1,4 +1,4 @@
-//! Tests of the table of declared types, of which types are `Copy`, of assignments, of what leaves, of `break` and `continue`, and of tuples.
+//! Tests of the table of declared types, of which types are `Copy`, of assignments, of what leaves, of `break` and `continue`, of tuples, and of structs in functions.
 #![tactic(auto)]
 
 #[cfg(test)]
@@ -17,6 +17,8 @@ mod declaring;
 mod leaving;
 #[cfg(test)]
 mod meaning;
+#[cfg(test)]
+mod structs;
 #[cfg(test)]
 mod tables;
 #[cfg(test)]

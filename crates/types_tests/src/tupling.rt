@@ -240,7 +240,7 @@ fn tuples_stand_everywhere(rt: HostRuntime) {
 
 const TYPES: [Row; 6] = [
     (b"fn f(t: (i32, &bool)) {}", Some((Code::E20, 8, 20))),
-    (b"struct S; fn f(t: (i32, S)) {}", None),
+    (b"struct S; fn f(t: (i32, S)) -> S { t.1 }", None),
     (
         b"struct i32; fn f(t: (bool, i32)) {}",
         Some((Code::E20, 20, 31)),
@@ -253,7 +253,7 @@ const TYPES: [Row; 6] = [
     (b"fn f(t: (i32, (bool, u8))) -> (bool, u8) { t.1 }", None),
 ];
 
-/// A tuple's type is built where all that stands in it is; no declared type is whose name is a word of types.
+/// A tuple is built where all that stands in its type is, else it is refused as a whole; no declared type is whose name is a word of types.
 #[test]
 fn types_of_tuples_are_read(rt: HostRuntime) {
     expect(&rt, rt.alloc(), &TYPES);
