@@ -1,10 +1,10 @@
 //! Assignments from the texts of sources: what is accepted, and which refusal stands where.
 use rs_syntax::parse;
+use source_trees::Item;
 use std::alloc::Global;
 use std::process::Abort;
 use std::test::Fail;
 use text_core::{Code, Names, PassError};
-use source_trees::Item;
 use type_check::{TypedProgram, check, declare};
 
 /// A source, and the code and the place of its refusal if it is refused.
