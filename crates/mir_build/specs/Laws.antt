@@ -58,7 +58,7 @@ BlocksAreCounted = (table : List (List ℕ)) (ds : List AdtDecl) (p : TypedProgr
 -- each function lowers to a body, a contract and gone places, and the functions fit and are plain
 pub record Lowers (table : List (List ℕ)) (ds : List AdtDecl) (fs : List TypedFunction) (bs : Bodies) (cs : Contracts) (gones : List Initialised) : Type 0 where
   pub lowers : LowerTo table ds fs bs cs gones
-  pub fits : EachFits (signatures fs) fs
+  pub fits : EachFits ds (signatures fs) fs
   pub plain : EachIsPlain fs
 
 abbrev pub BodiesAreSound : Type 0
