@@ -1,5 +1,5 @@
 -- The fields of a literal, one after another.
-use Rattle.std.proofs.Common.{◌≡◌, ◌∙◌, ℕ, zero, suc, ◌+◌, ◌<◌, List, [], ◌∷◌, ◌++◌, length, get_or, drop, refl, ap, ap₂, sym, add-one, drop-cons, Some, Result, Ok, Err, arith}
+use Rattle.std.proofs.Common.{◌≡◌, ◌∙◌, ℕ, zero, suc, ◌+◌, ◌<◌, ◌≤◌, List, [], ◌∷◌, ◌++◌, length, get_or, drop, refl, ap, ap₂, sym, add-one, drop-cons, Some, Result, Ok, Err, arith}
 use Rattle.text_core.specs.declared.fault.PassError.{PassError}
 use Rattle.text_core.specs.declared.refusal.SourceError.{SourceError}
 use Rattle.text_core.specs.declared.span.Span.{Span}
@@ -9,7 +9,7 @@ use Rattle.source_trees.specs.declared.expr.FieldExpr.{FieldExpr}
 use Rattle.source_trees.specs.Expr.{FieldExprs, with_field}
 use Rattle.source_trees.specs.ExprView.{expr_size, field_exprs_of, field_exprs_size}
 use Rattle.type_check.specs.declared.scope.Variable.{Variable}
-use Rattle.type_check.specs.Answers.{◌>>=◌, Refuses}
+use Rattle.type_check.specs.Answers.{◌>>=◌, Refuses, mismatch}
 use Rattle.type_check.specs.Setting.{Setting}
 use Rattle.type_check.specs.TypedExpr.{TypedExpr, TypedExprs}
 use Rattle.type_check.specs.TypedExpr as tree
@@ -49,20 +49,20 @@ fields_start σ Γ s m fs = nothing_yet (typed_fields σ Γ s m m.fields (field_
 
 module _ (σ : Setting) (Γ : List Variable) (s : Span) (m : Maker) (fs : List FieldExpr) (i : ℕ) (f : FieldExpr) (vs : List TypedExpr) (q : f ≡ get_or fs i f) (h : i < length fs)
     (r : typed_fields σ Γ s m m.fields (field_exprs_of fs) ≡ continued σ Γ s m fs i vs) where
-  behind : Ty → Result TypedExprs SourceError
+  abbrev behind : Ty → Result TypedExprs SourceError
   behind = at_field σ Γ s m f (drop (suc i) m.fields) (field_exprs_of (drop (suc i) fs))
 
   -- the next field and its value are taken
   pub fields_more : (ws : List TypedExpr) (u : Ty) (v : TypedExpr) → next_field σ.types m (drop i m.fields) f.name ≡ Ok u → typed σ Γ f.value (Some u) ≡ Ok v → ws ≡ vs ++ v ∷ []
       → typed_fields σ Γ s m m.fields (field_exprs_of fs) ≡ continued σ Γ s m fs (i + 1) ws
   fields_more ws u v named p pushed =
-      r
+      rw add-one
+      (r
       ∙ ap (λ (n : Result TypedExprs SourceError). n >>= and_args vs) (next σ Γ s m fs i f q h)
       ∙ ap (λ (n : Result Ty SourceError). (n >>= behind) >>= and_args vs) named
       ∙ ap (λ (n : Result TypedExpr SourceError). (n >>= then_fields σ Γ s m (drop (suc i) m.fields) (field_exprs_of (drop (suc i) fs))) >>= and_args vs) p
       ∙ one_more vs v (typed_fields σ Γ s m (drop (suc i) m.fields) (field_exprs_of (drop (suc i) fs)))
-      ∙ ap (λ n. typed_fields σ Γ s m (drop n m.fields) (field_exprs_of (drop n fs)) >>= and_args (vs ++ v ∷ [])) (sym add-one)
-      ∙ ap (continued σ Γ s m fs (i + 1)) (sym pushed)
+      ∙ ap (continued σ Γ s m fs (suc i)) (sym pushed))
 
   -- the name is refused
   pub name_stops : (e : PassError) → Refuses e (next_field σ.types m (drop i m.fields) f.name) → Refuses e (typed_fields σ Γ s m m.fields (field_exprs_of fs))
@@ -94,6 +94,18 @@ fields_end σ Γ s m fs n vs q p = at_end σ Γ s m fs n vs q ∙ ap (λ (r : Re
 pub end_stops : (e : PassError) (σ : Setting) (Γ : List Variable) (s : Span) (m : Maker) (fs : List FieldExpr) (n : ℕ) (vs : List TypedExpr) → n ≡ length fs
     → typed_fields σ Γ s m m.fields (field_exprs_of fs) ≡ continued σ Γ s m fs n vs → Refuses e (no_field_left s (drop n m.fields)) → Refuses e (typed_fields σ Γ s m m.fields (field_exprs_of fs))
 end_stops e σ Γ s m fs n vs q r p = along e _ _ (r ∙ at_end σ Γ s m fs n vs q) (refuses_then e (no_field_left s (drop n m.fields)) (and_args vs) p)
+
+-- a field is missing, and none is
+pub some_left : (s : Span) (fs : List FieldDecl) (n : ℕ) → n < length fs → no_field_left s (drop n fs) ≡ Err (mismatch s)
+some_left s [] n h = absurd (omega arith)
+some_left s (f ∷ fs) zero h = refl
+some_left s (f ∷ fs) (suc n) h = some_left s fs n (omega arith)
+
+pub none_left : (s : Span) (fs : List FieldDecl) (n : ℕ) → length fs ≤ n → no_field_left s (drop n fs) ≡ Ok tree.none
+none_left s [] zero h = refl
+none_left s [] (suc n) h = refl
+none_left s (f ∷ fs) zero h = absurd (omega arith)
+none_left s (f ∷ fs) (suc n) h = none_left s fs n (omega arith)
 
 -- ---- sizes
 

@@ -38,6 +38,7 @@ use Rattle.rs_types.specs.declared.checks.Check.TheVariants as check
 use Rattle.rs_types.specs.declared.written.Elision.{Elision}
 use Rattle.rs_types.specs.declared.written.Elision.TheVariants as elision
 use Rattle.type_check.specs.Answers.{double_name, unknown_name, unbuilt, with_some}
+use Rattle.type_check.specs.Written.{function_scope}
 use Rattle.type_check.specs.DeclaredTypes.{lifetime_name, parameter_name, lifetimes_of, heads, first_number, item_scope, takes}
 use Rattle.type_check.specs.Answers.{or_else}
 

@@ -5,7 +5,8 @@ ghost use Rattle.rs_types.specs.declared.checks.Check.TheVariants.{Plain};
 ghost use Rattle.rs_types.specs.declared.written.Elision.TheVariants.{Refused, Numbered};
 ghost use Rattle.type_check.specs.Answers.{unbuilt};
 ghost use Rattle.type_check.specs.DeclaredTypes.{heads};
-ghost use Rattle.type_check.specs.Declaring.{check_of, field_checks, fields_checks, parts_checks, struct_fields_checks, variant_fields_checks, variant_checks, variants_checks, standing, param_checks, param_name, in_answer, answer_checks, signature_checks, function_scope, function_checks, struct_checks, enum_checks, node_checks, item_checks, checks};
+ghost use Rattle.type_check.specs.Written.{function_scope};
+ghost use Rattle.type_check.specs.Declaring.{check_of, field_checks, fields_checks, parts_checks, struct_fields_checks, variant_fields_checks, variant_checks, variants_checks, standing, param_checks, param_name, in_answer, answer_checks, signature_checks, function_checks, struct_checks, enum_checks, node_checks, item_checks, checks};
 
 use crate::double::{double_in, double_of, head_refusal, named, type_name, value_name};
 use crate::fields::{first_number, names_of, next_number, span_of};

@@ -638,8 +638,9 @@ fn type_fields(
 {
     let mut typed = Vec::with_capacity(alloc, fields.len())?;
     for i in 0..fields.len() {
-        let wanted = next_field(alloc, setting.types.decls(), maker, i, fields[i].name)?;
-        let part = type_expr(alloc, setting, scope, &fields[i].value, &Some(wanted))?;
+        let field = &fields[i];
+        let wanted = next_field(alloc, setting.types.decls(), maker, i, field.name)?;
+        let part = type_expr(alloc, setting, scope, &field.value, &Some(wanted))?;
         typed.push(part)?;
     }
     no_field_left(maker, whole, fields.len())?;

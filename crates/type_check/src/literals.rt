@@ -226,6 +226,7 @@ pub(crate) fn next_field(
 }
 
 /// No field of the struct may be missing behind so many.
+#[tactic(auto, using(crate::proofs::FieldParts::some_left, crate::proofs::FieldParts::none_left))]
 pub(crate) fn no_field_left(maker: &Maker<'_>, span: Span, given: usize) -> Result<(), PassError>
     ensures { AnswersAs result (no_field_left span (drop given maker.now.fields.now)) (λ nothing. none) }
 {

@@ -1,5 +1,5 @@
 -- Chains, the loop over arguments, what a block leaves in scope, and loops with attributes.
-use Rattle.std.proofs.Common.{◌≡◌, ◌∙◌, Result, Ok, Err, ◌+◌, ◌*◌, ◌++◌, [], ◌∷◌, length, take, ap, sym, subst, arith, rules}
+use Rattle.std.proofs.Common.{◌≡◌, ◌∙◌, Result, Ok, Err, ◌+◌, ◌*◌, ◌++◌, [], ◌∷◌, Some, length, drop, take, ap, sym, subst, arith, rules}
 use Rattle.std.specs.Prelude.{OnOk, slice_get}
 use Rattle.std.proofs.lemmas.Grind.{common_steps}
 use Rattle.std.proofs.lemmas.Result.{err_from_is_err_and}
@@ -8,9 +8,12 @@ use Rattle.source_trees.specs.ExprView.{expr_size}
 use Rattle.type_check.specs.Answers.{Answers, Refuses}
 use Rattle.type_check.specs.Chains.{behind}
 use Rattle.type_check.specs.Setting.{setting_of}
-use Rattle.type_check.specs.Typing.{typed}
+use Rattle.type_check.specs.TypedExpr.{none}
+use Rattle.type_check.specs.Typing.{next_field, no_field_left, typed}
 use Rattle.type_check.proofs.Arguments.{args_more_all, args_stop_all, args_end}
 use Rattle.type_check.proofs.Chains.{climbed_refuses, sizes_up, up, up_refuses}
+use Rattle.type_check.specs.Literals.{made_by}
+use Rattle.type_check.proofs.FieldParts.{fields_end, fields_more}
 use Rattle.type_check.proofs.PartByPart.{along}
 use Rattle.type_check.proofs.Parts.{endless_seen, loop_seen}
 use Rattle.type_check.proofs.StatementLists.{scope_stays}
@@ -80,6 +83,24 @@ pub type_args-returns-clause-answers : goal.type_args-returns-clause-answers
 type_args-returns-clause-answers t c =
     c.loop-i.invariant.so_far
     ∙ args_end (setting_of c.args.setting.now) c.args.scope.now.items c.args.args.now c.args.params.now c.loop-i.i c.loop-i.typed.items (omega arith)
+
+pub type_fields-loop-i-preserved : goal.type_fields-loop-i-preserved
+type_fields-loop-i-preserved t c =
+    let wanted : next_field c.args.setting.now.types.now (made_by c.args.maker.now) (drop c.loop-i.i c.args.maker.now.fields.now) c.index-fields-i.result.name ≡ Ok c.in_ok-wanted.wanted =
+    subst (λ ds. next_field ds (made_by c.args.maker.now) (drop c.loop-i.i c.args.maker.now.fields.now) c.index-fields-i.result.name ≡ Ok c.in_ok-wanted.wanted) c.decls.ensures c.in_ok-wanted.ensures in
+    let typed_at = subst (λ Γ. typed (setting_of c.args.setting.now) Γ c.index-fields-i.result.value (Some c.in_ok-wanted.wanted) ≡ Ok c.in_ok-part.part) c.loop-i.invariant.kept c.in_ok-part.ensures.answers in
+    record {
+      kept = subst (λ Γ. c.type_expr.new.scope.items ≡ Γ) c.loop-i.invariant.kept c.in_ok-part.ensures.kept;
+      so_far = fields_more (setting_of c.args.setting.now) c.args.scope.now.items c.args.whole (made_by c.args.maker.now) c.args.fields.now c.loop-i.i c.index-fields-i.result c.loop-i.typed.items
+          c.index-fields-i.is c.loop-i-test.true c.loop-i.invariant.so_far c.push.new.self.items c.in_ok-wanted.wanted c.in_ok-part.part wanted typed_at c.in_ok-push.ensures.items;
+    }
+
+pub type_fields-returns-clause-answers : goal.type_fields-returns-clause-answers
+type_fields-returns-clause-answers t c =
+    let all : c.loop-i.i ≡ length c.args.fields.now = omega arith in
+    let left = subst (λ n. no_field_left c.args.whole (drop n c.args.maker.now.fields.now) ≡ Ok none) (sym all) c.in_ok-no_field_left.ensures in
+    c.loop-i.invariant.so_far
+    ∙ fields_end (setting_of c.args.setting.now) c.args.scope.now.items c.args.whole (made_by c.args.maker.now) c.args.fields.now c.loop-i.i c.loop-i.typed.items all left
 
 pub type_block-returns-clause-kept : goal.type_block-returns-clause-kept
 type_block-returns-clause-kept t c =
