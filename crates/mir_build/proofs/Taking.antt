@@ -43,31 +43,31 @@ are_needed rows vs = record {
 
 found_new : (ds : List AdtDecl) (rows : List CopyRow) (n d : ℕ) → a_new ds rows n ≡ Some d → new_at ds rows d ≡ true
 found_new ds rows zero d e = absurd (cc)
-found_new ds rows (suc n) d e = by (new_at ds rows n) refl
+found_new ds rows (suc n) d e = by (new_at ds rows n) refl (found_new ds rows n d)
   where
-    by : (b : Bool) → new_at ds rows n ≡ b → new_at ds rows d ≡ true
-    by true q =
+    by : (b : Bool) → new_at ds rows n ≡ b → (a_new ds rows n ≡ Some d → new_at ds rows d ≡ true) → new_at ds rows d ≡ true
+    by true q below =
         let r : Some n ≡ Some d = sym (ap (λ b. if b then Some n else a_new ds rows n) q) ∙ e in
         let same : n ≡ d = cc in
         subst (λ m. new_at ds rows m ≡ true) same q
-    by false q = found_new ds rows n d (sym (ap (λ b. if b then Some n else a_new ds rows n) q) ∙ e)
+    by false q below = below (sym (ap (λ b. if b then Some n else a_new ds rows n) q) ∙ e)
 
 none_new : (ds : List AdtDecl) (rows : List CopyRow) (n d : ℕ) → a_new ds rows n ≡ None → d < n → new_at ds rows d ≡ false
 none_new ds rows zero d e h = absurd (omega (arith, h))
-none_new ds rows (suc n) d e h = by (new_at ds rows n) refl
+none_new ds rows (suc n) d e h = by (new_at ds rows n) refl (none_new ds rows n d)
   where
-    by : (b : Bool) → new_at ds rows n ≡ b → new_at ds rows d ≡ false
-    by true q =
+    by : (b : Bool) → new_at ds rows n ≡ b → (a_new ds rows n ≡ None → d < n → new_at ds rows d ≡ false) → new_at ds rows d ≡ false
+    by true q before =
         let r : Some n ≡ None = sym (ap (λ b. if b then Some n else a_new ds rows n) q) ∙ e in
         absurd (cc)
-    by false q = below (eqb_tells d n)
+    by false q before = below (eqb_tells d n)
       where
         rest : a_new ds rows n ≡ None
         rest = sym (ap (λ b. if b then Some n else a_new ds rows n) q) ∙ e
 
         below : ((eqb d n ≡ true) × (d ≡ n)) ⊎ ((eqb d n ≡ false) × (d ≢ n)) → new_at ds rows d ≡ false
         below (inl (t, same)) = subst (λ m. new_at ds rows m ≡ false) (sym same) q
-        below (inr (t, other)) = none_new ds rows n d rest (omega (arith, h, other))
+        below (inr (t, other)) = before rest (omega (arith, h, other))
 
 within : (ds : List AdtDecl) (rows : List CopyRow) (d : ℕ) → new_at ds rows d ≡ true → d < length ds
 within ds rows d e = let new = new_there ds rows d e in slice_get_within ds d new.decl new.there
@@ -100,16 +100,16 @@ not_new ds rows h d = by (new_at ds rows d) refl
 
 settles : (n : ℕ) (ds : List AdtDecl) (rows : List CopyRow) → AreRows ds rows → unknown rows ≤ n → AreRows ds (settled n ds rows) × NothingNew ds (settled n ds rows)
 settles zero ds rows h u = (h, not_new ds rows (λ d e. absurd (omega (arith, u, row_fewer ds rows d h e))))
-settles (suc n) ds rows h u = by (a_new ds rows (length ds)) refl
+settles (suc n) ds rows h u = by (a_new ds rows (length ds)) refl (settles n ds)
   where
-    by : (o : Option ℕ) → a_new ds rows (length ds) ≡ o → AreRows ds (settled (suc n) ds rows) × NothingNew ds (settled (suc n) ds rows)
-    by None q =
+    by : (o : Option ℕ) → a_new ds rows (length ds) ≡ o → ((rs : List CopyRow) → AreRows ds rs → unknown rs ≤ n → AreRows ds (settled n ds rs) × NothingNew ds (settled n ds rs)) → AreRows ds (settled (suc n) ds rows) × NothingNew ds (settled (suc n) ds rows)
+    by None q on =
         let same : settled (suc n) ds rows ≡ rows = stays (suc n) ds rows q in
         subst (λ rs. AreRows ds rs × NothingNew ds rs) (sym same) (h, not_new ds rows (λ d e. true≢false (sym e ∙ none_new ds rows (length ds) d q (within ds rows d e))))
-    by (Some d) q =
+    by (Some d) q on =
         let e = found_new ds rows (length ds) d q in
         let same : settled (suc n) ds rows ≡ settled n ds (with_row ds rows (Some d)) = ap (λ o. settled n ds (with_row ds rows o)) q in
-        subst (λ rs. AreRows ds rs × NothingNew ds rs) (sym same) (settles n ds (with_row ds rows (Some d)) (row_more ds rows d h e) (omega (arith, u, row_fewer ds rows d h e)))
+        subst (λ rs. AreRows ds rs × NothingNew ds rs) (sym same) (on (with_row ds rows (Some d)) (row_more ds rows d h e) (omega (arith, u, row_fewer ds rows d h e)))
 
 none_known : (n : ℕ) → unknown (replicate n no_row) ≡ n
 none_known zero = refl
