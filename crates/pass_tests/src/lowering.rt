@@ -7,8 +7,8 @@ use rs_syntax::parse;
 use std::alloc::Global;
 use std::process::Abort;
 use std::test::Fail;
-use text_core::{Items, Names, Span};
-use type_check::check;
+use text_core::{Names, Span};
+use type_check::{Declared, check, declare};
 
 const A_LOOP: &[u8] = b"fn f(b: bool, mut x: i32) { #[invariant(b)] while x != 0 { x = x - 1; } }";
 
@@ -17,14 +17,16 @@ const AN_ENDLESS_LOOP: &[u8] =
 
 const A_CALL: &[u8] = b"fn g(x: i32) -> bool { true } fn f(y: i32) { g(y); }";
 
-fn lowered(alloc: Global, source: &[u8]) -> Result<Lowered, Fail> {
+pub(crate) fn lowered(alloc: Global, source: &[u8]) -> Result<Lowered, Fail> {
     if source.len() > 1000 {
         return Err("too long".into());
     }
     let mut names = Names::new(alloc);
     let items = parse(alloc, source, &mut names)?;
-    let program = check(alloc, items.as_slice())?;
-    Ok(lower(alloc, &program, Items::new(alloc), &names)?)
+    let declared = declare(alloc, items.as_slice())?;
+    let program = check(alloc, items.as_slice(), &declared)?;
+    let Declared { table } = declared;
+    Ok(lower(alloc, &program, table.into_decls(), &names)?)
 }
 
 // ---- bodies

@@ -11,8 +11,8 @@ type Row = (&'static [u8], Option<(Code, u32, u32)>);
 
 /// The names pass, and then the types pass.
 fn passes(alloc: Global, items: &[Item]) -> Result<(), PassError> {
-    declare(alloc, items)?;
-    check(alloc, items)?;
+    let declared = declare(alloc, items)?;
+    check(alloc, items, &declared)?;
     Ok(())
 }
 
