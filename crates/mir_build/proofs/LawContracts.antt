@@ -1,6 +1,7 @@
 -- The contract of a function speaks of its parameters.
 use Rattle.std.proofs.Common.{◌≡◌, ◌⊎◌, inl, inr, refl, ap, sym, ◌∙◌, subst, ℕ, zero, suc, ◌+◌, ◌^◌, ◌≤◌, true, List, [], ◌∷◌, ◌++◌, map, drop, length, Some, slice_get, arith, length-append, length-drop}
 use Rattle.text_core.specs.declared.name.Name.{Name}
+use Rattle.logic_term.specs.declared.declaration.AdtDecl.{AdtDecl}
 use Rattle.logic_term.specs.Free.{free}
 use Rattle.logic_term.specs.Term.{Term}
 use Rattle.logic_term.specs.declared.obligation.Contract.{Contract}
@@ -60,7 +61,7 @@ spans_behind : (rs es : List Formula) → length (drop (length (map term_of rs))
 spans_behind rs es =
     omega (arith, length-drop (length (map term_of rs)) (map formula_span rs ++ map formula_span es), length-append (map formula_span rs) (map formula_span es), map_length term_of rs, map_length formula_span rs, map_length formula_span es, map_length term_of es)
 
-module _ (owner : List ℕ) (f : TypedFunction) (b : Body) (gone : Initialised) {τ : List Signature} (l : LowersTo τ owner f b gone) (σ : List Signature) (fits : FunctionFits σ f) where
+module _ (owner : List ℕ) (f : TypedFunction) (b : Body) (gone : Initialised) {δ : List AdtDecl} {τ : List Signature} (l : LowersTo δ τ owner f b gone) (σ : List Signature) (fits : FunctionFits δ σ f) where
   variable_at : (i : ℕ) (x : Name) → slice_get (map variable_name (counted 0 f.signature.params)) i ≡ Some x → (x.0 ≡ (variable_name i).0) × (i ≤ 2 ^ 32)
   variable_at i x e =
       let w = counted_at variable_name 0 f.signature.params i x e in

@@ -1,6 +1,7 @@
 -- The body of a function that lowers: its blocks, the types of its locals and the sets of its labels.
 use Rattle.std.proofs.Common.{◌≡◌, refl, ap, sym, ◌∙◌, subst, ℕ, suc, ◌+◌, ◌<◌, ◌≤◌, ◌==◌, ◌&&◌, nat_lt, Bool, true, false, cond, List, [], ◌∷◌, ◌++◌, map, length, Some, slice_get, arith, length-append}
 use Rattle.std.proofs.lemmas.Bool.Decides.{nat_tests}
+use Rattle.logic_term.specs.declared.declaration.AdtDecl.{AdtDecl}
 use Rattle.logic_term.specs.declared.kinds.Label.{Label}
 use Rattle.logic_term.specs.Ty.{Ty}
 use Rattle.mir_ir.specs.declared.body.Body.{Body}
@@ -84,7 +85,7 @@ from_parameter p x e = (lower p x e, upper p x e)
 
 -- ---- the function's own locals
 
-module _ (owner : List ℕ) (f : TypedFunction) (b : Body) (gone : Initialised) {τ : List Signature} (l : LowersTo τ owner f b gone) where
+module _ (owner : List ℕ) (f : TypedFunction) (b : Body) (gone : Initialised) {δ : List AdtDecl} {τ : List Signature} (l : LowersTo δ τ owner f b gone) where
   pub locals_fit : MadeFits b (all_locals f l.text)
   locals_fit = record { fits = λ x t h. let w = has_place (x, t) (all_locals f l.text) h in l.locals w.0 x t w.1 }
 
@@ -108,7 +109,7 @@ module _ (owner : List ℕ) (f : TypedFunction) (b : Body) (gone : Initialised) 
   -- ---- layout
 
   pub body_once : Once (labels b.blocks)
-  body_once = subst Once (sym (ap labels l.blocks ∙ labels_of (fresh (entry_title b.entry)) l.text _)) (labels_once τ owner f b gone l)
+  body_once = subst Once (sym (ap labels l.blocks ∙ labels_of (fresh (entry_title b.entry)) l.text _)) (labels_once δ τ owner f b gone l)
 
   body_titles : titles b.blocks ≡ entry_title b.entry ∷ begun l.text
   body_titles = ap titles l.blocks ∙ titles_of (fresh (entry_title b.entry)) l.text _
@@ -116,7 +117,7 @@ module _ (owner : List ℕ) (f : TypedFunction) (b : Body) (gone : Initialised) 
   body_flows : Flowing (titles b.blocks) b.blocks
   body_flows = subst (Flowing (titles b.blocks)) (sym l.blocks)
       (flowing_of (titles b.blocks) _ refl [] [] l.text
-      (flows (around_body f) f.body l.text l.into (titles b.blocks) [] (λ t h. subst (λ bs. Has t bs) (sym body_titles) (there h)) (in_no_loop (titles b.blocks) []))
+      (flows (around_body δ f) f.body l.text l.into (titles b.blocks) [] (λ t h. subst (λ bs. Has t bs) (sym body_titles) (there h)) (in_no_loop (titles b.blocks) []))
       (fresh (entry_title b.entry)) refl)
 
   pub body_laid_out : IsLaidOut b
@@ -127,7 +128,7 @@ module _ (owner : List ℕ) (f : TypedFunction) (b : Body) (gone : Initialised) 
   is_param : (x : ℕ) → 1 ≤ x → x < 1 + length f.signature.params → parameters b x ≡ true
   is_param x h g = is_parameter b.params x h (omega (arith, l.params))
 
-  scoped : Scoped (around_body f) f.signature.params (parameters b) (parameters b)
+  scoped : Scoped (around_body δ f) f.signature.params (parameters b) (parameters b)
   scoped = record {
     count = sym (counted_places 1 f.signature.params);
     holds = λ p h. let w = has_places 1 f.signature.params p h in is_param p.local w.0 w.1;
@@ -151,14 +152,14 @@ module _ (owner : List ℕ) (f : TypedFunction) (b : Body) (gone : Initialised) 
     once = λ x.
         let e : count x (numbers (paired 1 f.signature.params ++ made l.text)) ≡ count x (numbers (paired 1 f.signature.params)) + count x (numbers (made l.text)) =
         ap (count x) (numbers-append (paired 1 f.signature.params) (made l.text)) ∙ count-append x (numbers (paired 1 f.signature.params)) (numbers (made l.text)) in
-        omega (arith, e, weight_param x, locals_once τ owner f b gone l x);
+        omega (arith, e, weight_param x, locals_once δ τ owner f b gone l x);
   }
 
   -- ---- the labelling
 
-  module _ (σ : List Signature) (fits : FunctionFitsPlainly σ f) where
+  module _ (σ : List Signature) (fits : FunctionFitsPlainly δ σ f) where
     runs_from : Laid (Meets [] (parameters b)) (parameters b) l.text (with 0 (parameters b))
-    runs_from = text_laid (surroundings_of σ f.signature) false (around_body f) f.body l.text l.into f.signature.params (parameters b) (parameters b) scoped fits.body apart
+    runs_from = text_laid (surroundings_of δ σ f.signature) false (around_body δ f) f.body l.text l.into f.signature.params (parameters b) (parameters b) scoped fits.body apart
 
     starts : List (Label × Locals)
     starts = (b.entry, parameters b) ∷ runs_from.starts
@@ -168,7 +169,7 @@ module _ (owner : List ℕ) (f : TypedFunction) (b : Body) (gone : Initialised) 
 
     starts_once : Once (labels_in starts)
     unfolding starts
-    starts_once = subst Once (sym (ap (λ ls. b.entry.0 ∷ ls) runs_from.are)) (labels_once τ owner f b gone l)
+    starts_once = subst Once (sym (ap (λ ls. b.entry.0 ∷ ls) runs_from.are)) (labels_once δ τ owner f b gone l)
 
     agreed : Agree start starts
     unfolding start
@@ -195,9 +196,9 @@ module _ (owner : List ℕ) (f : TypedFunction) (b : Body) (gone : Initialised) 
 
   -- ---- types
 
-  module _ (σ : List Signature) (bodies : Bodies) (fits : FunctionFitsPlainly σ f) (callees : (n : ℕ) (g : Signature) → slice_get σ n ≡ Some g → Callee bodies n g) (answers : (n : ℕ) (g : Signature) → slice_get σ n ≡ Some g → IsScalar g.answer) where
+  module _ (σ : List Signature) (bodies : Bodies) (fits : FunctionFitsPlainly δ σ f) (callees : (n : ℕ) (g : Signature) → slice_get σ n ≡ Some g → Callee bodies n g) (answers : (n : ℕ) (g : Signature) → slice_get σ n ≡ Some g → IsScalar g.answer) where
     pub lines_typed : AreTyped bodies b l.text
-    lines_typed = text_typed (surroundings_of σ f.signature) bodies b callees answers answer_fits false (around_body f) f.body l.text l.into f.signature.params
+    lines_typed = text_typed (surroundings_of δ σ f.signature) bodies b callees answers answer_fits false (around_body δ f) f.body l.text l.into f.signature.params
         (record { scope = scope_fits; scalar_types = fits.params }) fits.body (answer_fits ∙ ap Some (sym fits.of_answer)) text_fits
 
     pub blocks_typed : EachBlock (BlockTyped bodies b) b.blocks

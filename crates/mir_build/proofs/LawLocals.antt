@@ -4,6 +4,7 @@ use Rattle.std.proofs.lemmas.Bool.{eqb-true}
 use Rattle.std.proofs.lemmas.Bool.Decides.{nat_tests}
 use Rattle.std.proofs.lemmas.Option.{slice_get_within}
 use Rattle.text_core.specs.declared.name.Name.{Name}
+use Rattle.logic_term.specs.declared.declaration.AdtDecl.{AdtDecl}
 use Rattle.logic_term.specs.Ty.{Ty}
 use Rattle.mir_ir.specs.declared.body.Body.{Body}
 use Rattle.mir_ir.specs.declared.body.Initialised.{Initialised}
@@ -181,7 +182,7 @@ text_scalar bodies b (Turns t k ∷ xs) h = text_scalar bodies b xs h.2
 text_scalar bodies b (Leaves t ∷ xs) h = text_scalar bodies b xs h.1
 text_scalar bodies b (Owns l ys ∷ xs) h = text_scalar bodies b xs h
 
-module _ (owner : List ℕ) (f : TypedFunction) (b : Body) (gone : Initialised) {τ : List Signature} (l : LowersTo τ owner f b gone) where
+module _ (owner : List ℕ) (f : TypedFunction) (b : Body) (gone : Initialised) {δ : List AdtDecl} {τ : List Signature} (l : LowersTo δ τ owner f b gone) where
   name_at : (x : ℕ) (n : Name) → slice_get b.names x ≡ Some n → (n ≡ local_name x) × (x < length b.locals)
   name_at x n e =
       let w = counted_at local_name 0 b.locals x n (sym (ap (λ ns. slice_get ns x) l.names) ∙ e) in
@@ -206,7 +207,7 @@ module _ (owner : List ℕ) (f : TypedFunction) (b : Body) (gone : Initialised) 
     },
   )
 
-  module _ (σ : List Signature) (bodies : Bodies) (fits : FunctionFitsPlainly σ f) (callees : (n : ℕ) (g : Signature) → slice_get σ n ≡ Some g → Callee bodies n g) (answers : (n : ℕ) (g : Signature) → slice_get σ n ≡ Some g → IsScalar g.answer) where
+  module _ (σ : List Signature) (bodies : Bodies) (fits : FunctionFitsPlainly δ σ f) (callees : (n : ℕ) (g : Signature) → slice_get σ n ≡ Some g → Callee bodies n g) (answers : (n : ℕ) (g : Signature) → slice_get σ n ≡ Some g → IsScalar g.answer) where
     all_scalar : AllOfScalar (all_locals f l.text)
     all_scalar = first_scalar 0 f.signature.answer (paired 1 f.signature.params ++ made l.text) fits.answer
         (scalar-append (paired 1 f.signature.params) (made l.text) (params_scalar 1 f.signature.params fits.params)
@@ -217,7 +218,7 @@ module _ (owner : List ℕ) (f : TypedFunction) (b : Body) (gone : Initialised) 
 
     pub types_scalar : (x : ℕ) (t : Ty) → slice_get b.locals x ≡ Some t → IsScalar t
     types_scalar x t e =
-        let n = each_counts (length b.locals) (numbers (all_locals f l.text)) (numbers_length (all_locals f l.text) ∙ sym l.all) below (locals_once τ owner f b gone l) x (slice_get_within b.locals x t e) in
+        let n = each_counts (length b.locals) (numbers (all_locals f l.text)) (numbers_length (all_locals f l.text) ∙ sym l.all) below (locals_once δ τ owner f b gone l) x (slice_get_within b.locals x t e) in
         let w = counted_has x (all_locals f l.text) n in
         let q : w.0 ≡ t = some_same (sym ((locals_fit owner f b gone l).fits x w.0 w.1) ∙ e) in
         subst IsScalar q (all_scalar.scalar x w.0 w.1)

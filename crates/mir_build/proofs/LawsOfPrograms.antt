@@ -25,7 +25,7 @@ use Rattle.mir_build.proofs.Basics.{some_same}
 use Rattle.mir_build.proofs.PlainTyping.{FunctionFitsPlainly, fits_plainly}
 
 -- the function of a place, and its body; the first function has this number
-pub record FunctionAt (σ : List Signature) (first : ℕ) (fs : List TypedFunction) (bs : List Body) (cs : List Contract) (gones : List Initialised) (n : ℕ) (f : TypedFunction) (b : Body) : Type 0 where
+pub record FunctionAt (ds : List AdtDecl) (σ : List Signature) (first : ℕ) (fs : List TypedFunction) (bs : List Body) (cs : List Contract) (gones : List Initialised) (n : ℕ) (f : TypedFunction) (b : Body) : Type 0 where
   pub owner : List ℕ
   pub gone : Initialised
   pub is_function : slice_get fs n ≡ Some f
@@ -35,34 +35,34 @@ pub record FunctionAt (σ : List Signature) (first : ℕ) (fs : List TypedFuncti
   pub is_contract : slice_get cs n ≡ Some contract
   pub has_contract : HasContract f contract
   pub is_gone : slice_get gones n ≡ Some gone
-  pub lowers : LowersTo σ owner f b gone
+  pub lowers : LowersTo ds σ owner f b gone
 
-further : (σ : List Signature) (first : ℕ) (f : TypedFunction) (fs : List TypedFunction) (b : Body) (bs : List Body) (c : Contract) (cs : List Contract) (g : Initialised) (gs : List Initialised) (n : ℕ) (h : TypedFunction) (k : Body)
-    → FunctionAt σ (suc first) fs bs cs gs n h k → FunctionAt σ first (f ∷ fs) (b ∷ bs) (c ∷ cs) (g ∷ gs) (suc n) h k
-further σ first f fs b bs c cs g gs n h k w = record { owner = w.owner; gone = w.gone; is_function = w.is_function; is_body = w.is_body; is_number = omega (arith, w.is_number); contract = w.contract; is_contract = w.is_contract; has_contract = w.has_contract; is_gone = w.is_gone; lowers = w.lowers }
+further : (ds : List AdtDecl) (σ : List Signature) (first : ℕ) (f : TypedFunction) (fs : List TypedFunction) (b : Body) (bs : List Body) (c : Contract) (cs : List Contract) (g : Initialised) (gs : List Initialised) (n : ℕ) (h : TypedFunction) (k : Body)
+    → FunctionAt ds σ (suc first) fs bs cs gs n h k → FunctionAt ds σ first (f ∷ fs) (b ∷ bs) (c ∷ cs) (g ∷ gs) (suc n) h k
+further ds σ first f fs b bs c cs g gs n h k w = record { owner = w.owner; gone = w.gone; is_function = w.is_function; is_body = w.is_body; is_number = omega (arith, w.is_number); contract = w.contract; is_contract = w.is_contract; has_contract = w.has_contract; is_gone = w.is_gone; lowers = w.lowers }
 
-pub of_body : (table : List (List ℕ)) (σ : List Signature) (first : ℕ) (fs : List TypedFunction) (bs : List Body) (cs : List Contract) (gones : List Initialised) → EachLowersTo table σ first fs bs cs gones
-    → (n : ℕ) (b : Body) → slice_get bs n ≡ Some b → (f : TypedFunction) × FunctionAt σ first fs bs cs gones n f b
-of_body table σ first fs bs cs gones no_functions n b e = absurd (cc)
-of_body table σ first fs bs cs gones (and_function {f = f} {b = k} {c = c} {gone = gone} owner t l h d r) zero b e =
-    (f, record { owner = owner; gone = gone; is_function = refl; is_body = e; is_number = ap (λ (m : Body). m.id) (sym (some_same e)) ∙ omega (arith, d); contract = c; is_contract = refl; has_contract = h; is_gone = refl; lowers = subst (λ m. LowersTo σ owner f m gone) (some_same e) l })
-of_body table σ first fs bs cs gones (and_function {f = f} {fs = fs'} {b = k} {bs = bs'} {c = c} {cs = cs'} {gone = gone} {gones = gs'} owner t l h d r) (suc n) b e =
-    let w = of_body table σ (suc first) fs' bs' cs' gs' r n b e in
-    (w.0, further σ first f fs' k bs' c cs' gone gs' n w.0 b w.1)
+pub of_body : (table : List (List ℕ)) (ds : List AdtDecl) (σ : List Signature) (first : ℕ) (fs : List TypedFunction) (bs : List Body) (cs : List Contract) (gones : List Initialised) → EachLowersTo table ds σ first fs bs cs gones
+    → (n : ℕ) (b : Body) → slice_get bs n ≡ Some b → (f : TypedFunction) × FunctionAt ds σ first fs bs cs gones n f b
+of_body table ds σ first fs bs cs gones no_functions n b e = absurd (cc)
+of_body table ds σ first fs bs cs gones (and_function {f = f} {b = k} {c = c} {gone = gone} owner t l h d r) zero b e =
+    (f, record { owner = owner; gone = gone; is_function = refl; is_body = e; is_number = ap (λ (m : Body). m.id) (sym (some_same e)) ∙ omega (arith, d); contract = c; is_contract = refl; has_contract = h; is_gone = refl; lowers = subst (λ m. LowersTo ds σ owner f m gone) (some_same e) l })
+of_body table ds σ first fs bs cs gones (and_function {f = f} {fs = fs'} {b = k} {bs = bs'} {c = c} {cs = cs'} {gone = gone} {gones = gs'} owner t l h d r) (suc n) b e =
+    let w = of_body table ds σ (suc first) fs' bs' cs' gs' r n b e in
+    (w.0, further ds σ first f fs' k bs' c cs' gone gs' n w.0 b w.1)
 
-pub of_function : (table : List (List ℕ)) (σ : List Signature) (first : ℕ) (fs : List TypedFunction) (bs : List Body) (cs : List Contract) (gones : List Initialised) → EachLowersTo table σ first fs bs cs gones
-    → (n : ℕ) (f : TypedFunction) → slice_get fs n ≡ Some f → (b : Body) × FunctionAt σ first fs bs cs gones n f b
-of_function table σ first fs bs cs gones no_functions n f e = absurd (cc)
-of_function table σ first fs bs cs gones (and_function {f = g} {b = k} {c = c} {gone = gone} owner t l h d r) zero f e =
-    (k, record { owner = owner; gone = gone; is_function = e; is_body = refl; is_number = omega (arith, d); contract = c; is_contract = refl; has_contract = subst (λ m. HasContract m c) (some_same e) h; is_gone = refl; lowers = subst (λ m. LowersTo σ owner m k gone) (some_same e) l })
-of_function table σ first fs bs cs gones (and_function {f = g} {fs = fs'} {b = k} {bs = bs'} {c = c} {cs = cs'} {gone = gone} {gones = gs'} owner t l h d r) (suc n) f e =
-    let w = of_function table σ (suc first) fs' bs' cs' gs' r n f e in
-    (w.0, further σ first g fs' k bs' c cs' gone gs' n f w.0 w.1)
+pub of_function : (table : List (List ℕ)) (ds : List AdtDecl) (σ : List Signature) (first : ℕ) (fs : List TypedFunction) (bs : List Body) (cs : List Contract) (gones : List Initialised) → EachLowersTo table ds σ first fs bs cs gones
+    → (n : ℕ) (f : TypedFunction) → slice_get fs n ≡ Some f → (b : Body) × FunctionAt ds σ first fs bs cs gones n f b
+of_function table ds σ first fs bs cs gones no_functions n f e = absurd (cc)
+of_function table ds σ first fs bs cs gones (and_function {f = g} {b = k} {c = c} {gone = gone} owner t l h d r) zero f e =
+    (k, record { owner = owner; gone = gone; is_function = e; is_body = refl; is_number = omega (arith, d); contract = c; is_contract = refl; has_contract = subst (λ m. HasContract m c) (some_same e) h; is_gone = refl; lowers = subst (λ m. LowersTo ds σ owner m k gone) (some_same e) l })
+of_function table ds σ first fs bs cs gones (and_function {f = g} {fs = fs'} {b = k} {bs = bs'} {c = c} {cs = cs'} {gone = gone} {gones = gs'} owner t l h d r) (suc n) f e =
+    let w = of_function table ds σ (suc first) fs' bs' cs' gs' r n f e in
+    (w.0, further ds σ first g fs' k bs' c cs' gone gs' n f w.0 w.1)
 
-pub fits_at : (σ : List Signature) (fs : List TypedFunction) → EachFits σ fs → (n : ℕ) (f : TypedFunction) → slice_get fs n ≡ Some f → FunctionFits σ f
-fits_at σ [] h n f e = absurd (cc)
-fits_at σ (g ∷ fs) h zero f e = subst (FunctionFits σ) (some_same e) h.0
-fits_at σ (g ∷ fs) h (suc n) f e = fits_at σ fs h.1 n f e
+pub fits_at : (ds : List AdtDecl) (σ : List Signature) (fs : List TypedFunction) → EachFits ds σ fs → (n : ℕ) (f : TypedFunction) → slice_get fs n ≡ Some f → FunctionFits ds σ f
+fits_at ds σ [] h n f e = absurd (cc)
+fits_at ds σ (g ∷ fs) h zero f e = subst (FunctionFits ds σ) (some_same e) h.0
+fits_at ds σ (g ∷ fs) h (suc n) f e = fits_at ds σ fs h.1 n f e
 
 plain_at : (fs : List TypedFunction) → EachIsPlain fs → (n : ℕ) (f : TypedFunction) → slice_get fs n ≡ Some f → FunctionIsPlain f
 plain_at [] h n f e = absurd (cc)
@@ -101,7 +101,7 @@ module _ (table : List (List ℕ)) (ds : List AdtDecl) (fs : List TypedFunction)
   callee : (n : ℕ) (g : Signature) → slice_get (signatures fs) n ≡ Some g → Callee bs n g
   callee n g e =
       let w = signature_at fs n g e in
-      let v = of_function table (signatures fs) 0 fs bs.bodies cs.of gones l.lowers.each n w.0 w.1 in
+      let v = of_function table ds (signatures fs) 0 fs bs.bodies cs.of gones l.lowers.each n w.0 w.1 in
       let u = v.1.lowers in
       record {
         body = v.0;
@@ -119,17 +119,17 @@ module _ (table : List (List ℕ)) (ds : List AdtDecl) (fs : List TypedFunction)
       subst (λ (s : Signature). IsScalar s.answer) w.2 (plain_at fs l.plain n w.0 w.1).answer
 
   module _ (n : ℕ) (b : Body) (is_body : slice_get bs.bodies n ≡ Some b) where
-    found : (f : TypedFunction) × FunctionAt (signatures fs) 0 fs bs.bodies cs.of gones n f b
-    found = of_body table (signatures fs) 0 fs bs.bodies cs.of gones l.lowers.each n b is_body
+    found : (f : TypedFunction) × FunctionAt ds (signatures fs) 0 fs bs.bodies cs.of gones n f b
+    found = of_body table ds (signatures fs) 0 fs bs.bodies cs.of gones l.lowers.each n b is_body
 
     number : b.id ≡ n
     number = omega (arith, found.1.is_number)
 
-    fit : FunctionFits (signatures fs) found.0
-    fit = fits_at (signatures fs) fs l.fits n found.0 found.1.is_function
+    fit : FunctionFits ds (signatures fs) found.0
+    fit = fits_at ds (signatures fs) fs l.fits n found.0 found.1.is_function
 
-    plainly : FunctionFitsPlainly (signatures fs) found.0
-    plainly = fits_plainly (signatures fs) found.0 (plain_at fs l.plain n found.0 found.1.is_function) fit
+    plainly : FunctionFitsPlainly ds (signatures fs) found.0
+    plainly = fits_plainly ds (signatures fs) found.0 (plain_at fs l.plain n found.0 found.1.is_function) fit
 
     typed : IsTyped bs b
     typed = body_typed found.1.owner found.0 b found.1.gone found.1.lowers (signatures fs) bs plainly callee answer_scalar

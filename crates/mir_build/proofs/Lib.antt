@@ -36,6 +36,7 @@ pub mod Runs
 pub mod Scopes
 pub mod Shapes
 pub mod Statements
+pub mod Taking
 pub mod Targets
 pub mod TaskStack
 pub mod TypedShapes

@@ -11,6 +11,7 @@ use Rattle.mir_ir.specs.declared.terminator.TerminatorKind.TheVariants.{Goto, If
 use Rattle.type_check.specs.TypedExpr.{TypedExpr, TypedStmts, TypedExprs, variable, part, block}
 use Rattle.type_check.specs.TypedExprView.{ty_of}
 use Rattle.mir_build.specs.declared.around.Loop.{Loop}
+use Rattle.mir_build.specs.Taking.{is_copied, taken}
 use Rattle.mir_build.specs.Text.{Line, Makes, Turns, Leaves, Owns, made}
 use Rattle.mir_build.specs.Lowering.{Around, binds, looping, at, at_head, head_of, whole, part_place, puts, puts_at, put_unit, moved, ends, innermost, dies_in, die_from, numbers, lazily, test, fork}
 use Rattle.mir_build.specs.Lowering.{Into, of_integer, of_truth, of_variable, of_negative, of_denied, of_binary, of_lazy, of_assign, of_update, of_call, of_make, of_part, of_block, of_branch, of_choice, of_leaving_choice, of_repeat, of_panics, of_returned, of_endless, of_until_break, of_break_off, of_go_on}
@@ -22,6 +23,7 @@ use Rattle.mir_build.proofs.Order.{InOrder}
 use Rattle.mir_build.proofs.Accepted.{formulas_are}
 use Rattle.mir_build.proofs.Rows.{own_local, own_locals}
 use Rattle.mir_build.proofs.Following.{From, from_left, two, three, order_left, order_right, order_lazy}
+use Rattle.mir_build.proofs.Taking.{one_takes}
 use Rattle.mir_build.proofs.Rowwise.{labels_behind, labels_behind_args}
 
 -- the place of a variable in scope
@@ -52,7 +54,9 @@ mutual
   one_text : (c : Around) (e : TypedExpr) (d : ℕ) (xs : List Line) (p : Into c e d xs) (l t : ℕ) → From l (named p) → InOrder t xs → xs ≡ into e c l t d
   one_text c e d xs of_integer l t n o = refl
   one_text c e d xs of_truth l t n o = refl
-  one_text c e d xs (of_variable {s = s} {v = v} x q) l t n o = λ i. puts s d (Use (Copy (found c.scope v x q i))) ∷ []
+  one_text c e d xs (of_variable {ty = ty} {s = s} {v = v} {o = w} x q k) l t n o =
+      let y = one_takes c.types ty x w k ∙ ap (taken (is_copied c.types ty)) (found c.scope v x q) in
+      λ i. puts s d (Use (y i)) ∷ []
   one_text c e d xs (of_negative {s = s} {e = a} {t = t'} {xs = us} p) l t n o =
       let x = one_text c a t' us p l (t + 1) n (order_left (t + 1) us _ o.1) ∙ ap (into a c l (t + 1)) o.0 in
       λ i. Makes (o.0 i) (ty_of a) ∷ (x i ++ puts s d (Neg (moved (o.0 i))) ∷ [])
@@ -92,9 +96,10 @@ mutual
   one_text c e d xs (of_make {s = s} {k = k} {es = es} {ts = ts} {xs = us} p) l t n o =
       let w = one_args c es ts us p l t n (order_left t us _ o) in
       λ i. w.1 i ++ puts s d (Make k (map moved (w.0 i))) ∷ []
-  one_text c e d xs (of_part {ty = ty} {s = s} {e = a} {n = m} {p = z} {xs = us} p) l t n o =
+  one_text c e d xs (of_part {ty = ty} {s = s} {e = a} {n = m} {p = z} {o = w} {xs = us} p k) l t n o =
       let y = one_place c (part ty s a m) z us p l t n (order_left t us _ o) in
-      λ i. y.1 i ++ puts s d (Use (Copy (y.0 i))) ∷ []
+      let u = one_takes c.types ty z w k ∙ ap (taken (is_copied c.types ty)) y.0 in
+      λ i. y.1 i ++ puts s d (Use (u i)) ∷ []
   one_text c e d xs (of_block p) l t n o = one_rest c false _ _ d xs p l t n o
   one_text c e d xs (of_branch {s = s} {e = a} {a = b} {t = t'} yes' no' after {xs = us} {ys = vs} p q) l t n o =
       let m = l + labels a in

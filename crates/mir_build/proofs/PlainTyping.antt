@@ -2,6 +2,7 @@
 use Rattle.std.proofs.Common.{◌≡◌, ◌⊎◌, inl, inr, true, false, List, [], ◌∷◌, ◌++◌, length, Some, slice_get}
 use Rattle.source_kinds.specs.declared.kinds.IntKind.{IntKind}
 use Rattle.source_kinds.specs.Range.{fits}
+use Rattle.logic_term.specs.declared.declaration.AdtDecl.{AdtDecl}
 use Rattle.logic_term.specs.Ty.{Ty, int, bool}
 use Rattle.type_check.specs.declared.program.Signature.{Signature}
 use Rattle.type_check.specs.declared.program.TypedFunction.{TypedFunction}
@@ -20,7 +21,7 @@ abbrev mutual
   pub IsPlainlyTyped : Surroundings → List Ty → TypedExpr → Type 0
   IsPlainlyTyped σ Γ (integer t s z k) = (t ≡ int k) × (fits k z ≡ true)
   IsPlainlyTyped σ Γ (truth t s b) = t ≡ bool
-  IsPlainlyTyped σ Γ (variable t s x) = slice_get Γ x ≡ Some t
+  IsPlainlyTyped σ Γ (variable t s x) = (slice_get Γ x ≡ Some t) × IsScalar t
   IsPlainlyTyped σ Γ (negative t s e) = (k : IntKind) × (is_signed k ≡ true) × (t ≡ int k) × IsOf (int k) e × IsPlainlyTyped σ Γ e
   IsPlainlyTyped σ Γ (denied t s e) = (t ≡ bool) × IsOf bool e × IsPlainlyTyped σ Γ e
   IsPlainlyTyped σ Γ (binary t s op a b) = (operation_ty op (ty_of a) ≡ Some t) × IsOf (ty_of a) b × IsPlainlyTyped σ Γ a × IsPlainlyTyped σ Γ b
@@ -57,11 +58,11 @@ abbrev mutual
   ArgumentsFitPlainly σ Γ (more e es) (t ∷ ts) = IsOf t e × IsPlainlyTyped σ Γ e × ArgumentsFitPlainly σ Γ es ts
   ArgumentsFitPlainly σ Γ _ _ = ⊥
 
-pub record FunctionFitsPlainly (σ : List Signature) (f : TypedFunction) : Type 0 where
+pub record FunctionFitsPlainly (ds : List AdtDecl) (σ : List Signature) (f : TypedFunction) : Type 0 where
   pub params : AllScalar f.signature.params
   pub answer : IsScalar f.signature.answer
   pub clauses : ClausesSpeak (length f.signature.params) f.clauses
-  pub body : IsPlainlyTyped (surroundings_of σ f.signature) f.signature.params f.body
+  pub body : IsPlainlyTyped (surroundings_of ds σ f.signature) f.signature.params f.body
   pub of_answer : IsOf f.signature.answer f.body
 
 -- ---- trees that fit and are plain
@@ -74,7 +75,7 @@ mutual
   pub plainly : (σ : Surroundings) (Γ : List Ty) (e : TypedExpr) → IsPlain e → IsWellTyped σ Γ e → IsPlainlyTyped σ Γ e
   plainly σ Γ (integer t s z k) p h = h
   plainly σ Γ (truth t s b) p h = h
-  plainly σ Γ (variable t s x) p h = h
+  plainly σ Γ (variable t s x) p h = (h, p)
   plainly σ Γ (negative t s e) p h = (h.0, h.1, h.2, h.3, plainly σ Γ e p.1 h.4)
   plainly σ Γ (denied t s e) p h = (h.0, h.1, plainly σ Γ e p.1 h.2)
   plainly σ Γ (binary t s op a b) p h = (h.0, h.1, plainly σ Γ a p.1 h.2, plainly σ Γ b p.2 h.3)
@@ -108,5 +109,5 @@ mutual
   plain_arguments σ Γ (more e es) [] p h = h
   plain_arguments σ Γ (more e es) (t ∷ ts) p h = (h.0, plainly σ Γ e p.0 h.1, plain_arguments σ Γ es ts p.1 h.2)
 
-pub fits_plainly : (σ : List Signature) (f : TypedFunction) → FunctionIsPlain f → FunctionFits σ f → FunctionFitsPlainly σ f
-fits_plainly σ f p h = record { params = p.params; answer = p.answer; clauses = h.clauses; body = plainly (surroundings_of σ f.signature) f.signature.params f.body p.body h.body; of_answer = h.of_answer }
+pub fits_plainly : (ds : List AdtDecl) (σ : List Signature) (f : TypedFunction) → FunctionIsPlain f → FunctionFits ds σ f → FunctionFitsPlainly ds σ f
+fits_plainly ds σ f p h = record { params = p.params; answer = p.answer; clauses = h.clauses; body = plainly (surroundings_of ds σ f.signature) f.signature.params f.body p.body h.body; of_answer = h.of_answer }

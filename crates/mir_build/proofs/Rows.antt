@@ -20,6 +20,7 @@ use Rattle.mir_build.specs.Numbered.{no_loop, loop_at, place_of, text_before, pl
 use Rattle.mir_build.proofs.Accepted.{first_none, second_none, all_accepted}
 use Rattle.mir_build.proofs.Fills.{numbers_of}
 use Rattle.mir_build.proofs.Following.{From, then_two, then_three}
+use Rattle.mir_build.proofs.Taking.{takes}
 use Rattle.mir_build.proofs.Rowwise.{labels_then, labels_then_args}
 
 -- there is a place for each variable
@@ -122,7 +123,7 @@ mutual
   pub lowers : (σ : Surroundings) (Γ : List Ty) (e : TypedExpr) (c : Around) (l t d : ℕ) → IsFor Γ c.scope → HasLoop σ c → IsWellTyped σ Γ e → bad_in e ≡ None → Lowered c e d l (into e c l t d)
   lowers σ Γ (integer ty s z k) c l t d h o w g = (of_integer, tt)
   lowers σ Γ (truth ty s b) c l t d h o w g = (of_truth, tt)
-  lowers σ Γ (variable ty s v) c l t d h o w g = (of_variable _ (in_scope Γ c.scope v ty h w), tt)
+  lowers σ Γ (variable ty s v) c l t d h o w g = (of_variable _ (in_scope Γ c.scope v ty h w) (takes c.types ty _), tt)
   lowers σ Γ (negative ty s e) c l t d h o w g =
       let p = lowers σ Γ e c l (t + 1) t h o w.4 g in
       (of_negative p.0, p.1)
@@ -160,7 +161,7 @@ mutual
       (of_make p.0, p.1)
   lowers σ Γ (part ty s e n) c l t d h o w g =
       let q = target e c l t (places σ Γ e c l t h o w.1 g) (lowers σ Γ e c l (t + 1) t h o w.1 g) in
-      (of_part (of_part_place q.0), q.1)
+      (of_part (of_part_place q.0) (takes c.types ty _), q.1)
   lowers σ Γ (block ty s ss) c l t d h o w g =
       let p = rests σ Γ ty ss false s c l t d h o w g in
       (of_block p.0, p.1)

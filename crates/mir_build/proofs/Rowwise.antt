@@ -29,7 +29,7 @@ mutual
   counts : (c : Around) (e : TypedExpr) (d : ℕ) (xs : List Line) (p : Into c e d xs) → Counts (labels e) (named p) xs
   counts c e d xs of_integer = (refl, refl)
   counts c e d xs of_truth = (refl, refl)
-  counts c e d xs (of_variable x q) = (refl, refl)
+  counts c e d xs (of_variable x q k) = (refl, refl)
   counts c e d xs (of_negative p) =
       let x = counts c _ _ _ p in
       (x.0, simp turns-append (omega (arith, x.1)))
@@ -58,7 +58,7 @@ mutual
   counts c e d xs (of_make p) =
       let x = args_counts c _ _ _ p in
       (x.0, simp turns-append (omega (arith, x.1)))
-  counts c e d xs (of_part p) =
+  counts c e d xs (of_part p k) =
       let x = place_counts c _ _ _ p in
       (x.0, simp turns-append (omega (arith, x.1)))
   counts c e d xs (of_block p) = rest_counts c _ _ _ _ _ p

@@ -67,7 +67,7 @@ module _ (P : Around → List Line → Type 0) (keeps : Keeps P) where
     of_text : (c : Around) (e : TypedExpr) (d : ℕ) (xs : List Line) → Into c e d xs → P c xs
     of_text c e d xs of_integer = one c _
     of_text c e d xs of_truth = one c _
-    of_text c e d xs (of_variable x q) = one c _
+    of_text c e d xs (of_variable x q k) = one c _
     of_text c e d xs (of_negative {xs = us} p) = made_then c _ _ us _ (of_text c _ _ us p) (one c _)
     of_text c e d xs (of_denied {xs = us} p) = made_then c _ _ us _ (of_text c _ _ us p) (one c _)
     of_text c e d xs (of_binary {xs = us} {ys = vs} p q) = made_then c _ _ us _ (of_text c _ _ us p) (made_then c _ _ vs _ (of_text c _ _ vs q) (one c _))
@@ -76,7 +76,7 @@ module _ (P : Around → List Line → Type 0) (keeps : Keeps P) where
     of_text c e d xs (of_update u {xs = us} {ys = vs} p q) = made_then c _ _ us _ (of_text c _ _ us p) (keeps.join c vs _ (of_place c _ _ vs q) (keeps.make c u _ _ (three c _ _ _)))
     of_text c e d xs (of_call after {xs = us} p) = keeps.join c us _ (of_args c _ _ us p) (keeps.called c _ _ _ _ after)
     of_text c e d xs (of_make {xs = us} p) = keeps.join c us _ (of_args c _ _ us p) (one c _)
-    of_text c e d xs (of_part {xs = us} p) = keeps.join c us _ (of_place c _ _ us p) (one c _)
+    of_text c e d xs (of_part {xs = us} p k) = keeps.join c us _ (of_place c _ _ us p) (one c _)
     of_text c e d xs (of_block p) = of_rest c _ _ _ _ xs p
     of_text c e d xs (of_branch {s = s} {t = t} yes' no' after {xs = us} {ys = vs} p q) = made_then c _ _ us _ (of_text c _ _ us p) (keeps.tested c s t yes' no' after vs _ (of_text c _ _ vs q) (one c _))
     of_text c e d xs (of_choice {s = s} {t = t} yes' no' after {xs = us} {ys = vs} {zs = ws} n p q r) =

@@ -79,11 +79,21 @@ module _ (b : Bool) (c : Around) (t n : ℕ) (h : n ≤ length c.scope) where
       by_case true = refl
       by_case false = refl
 
+  behind_types : (around_behind b c t).types ≡ c.types
+  behind_types = by_case b
+    where
+      by_case : (b : Bool) → (around_behind b c t).types ≡ c.types
+      by_case true = refl
+      by_case false = refl
+
   pub within_on : (around : Around) → around ≡ around_behind b c t → n ≤ length around.scope
   within_on around a = subst (λ (x : Around). n ≤ length x.scope) (sym a) behind_within
 
   pub front_on : (around : Around) → around ≡ around_behind b c t → take n around.scope ≡ take n c.scope
   front_on around a = ap (λ (x : Around). take n x.scope) a ∙ behind_front
+
+  pub types_on : (around : Around) → around ≡ around_behind b c t → around.types ≡ c.types
+  types_on around a = ap (λ (x : Around). x.types) a ∙ behind_types
 
   pub loops_on : (around : Around) → around ≡ around_behind b c t → around.loops ≡ c.loops
   loops_on around a = ap (λ (x : Around). x.loops) a ∙ behind_loops

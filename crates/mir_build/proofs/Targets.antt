@@ -2,12 +2,12 @@
 use Rattle.std.proofs.Common.{◌≡◌, refl, ap, sym, ◌∙◌, ℕ, ◌+◌, ◌≤◌, ◌<◌, true, false, List, [], ◌∷◌, ◌++◌, true≢false, arith}
 use Rattle.logic_term.specs.Ty.{Ty}
 use Rattle.text_core.specs.declared.span.Span.{Span}
-use Rattle.mir_ir.specs.declared.place.Operand.TheVariants.{Copy}
 use Rattle.mir_ir.specs.declared.place.Place.{Place}
 use Rattle.mir_ir.specs.declared.statement.Rvalue.TheVariants.{Use}
 use Rattle.type_check.specs.FirstBad.{bad_in}
 use Rattle.type_check.specs.TypedExpr.{TypedExpr, variable, part}
 use Rattle.type_check.specs.TypedExprView.{ty_of, span_of, typed_size}
+use Rattle.mir_build.specs.Taking.{is_copied, taken}
 use Rattle.mir_build.specs.Text.{Makes}
 use Rattle.mir_build.specs.Lowering.{Around, part_place, is_place, puts}
 use Rattle.mir_build.specs.Numbered.{place_of, temporary_count, text_before, labels, locals, into}
@@ -101,7 +101,7 @@ root_before e c l t h = refl
 place_counts : (e : TypedExpr) → is_place e ≡ true → temporary_count (is_place e) + locals e ≡ locals e
 place_counts e h = omega (arith, ap (λ b. temporary_count b + locals e) h)
 
-copied_text : (e : TypedExpr) (c : Around) (l t d : ℕ) → is_place e ≡ true → into e c l t d ≡ text_before e c l t ++ puts (span_of e) d (Use (Copy (place_of c.scope t e))) ∷ []
+copied_text : (e : TypedExpr) (c : Around) (l t d : ℕ) → is_place e ≡ true → into e c l t d ≡ text_before e c l t ++ puts (span_of e) d (Use (taken (is_copied c.types (ty_of e)) (place_of c.scope t e))) ∷ []
 copied_text (variable ty s v) c l t d h = refl
 copied_text (part ty s e n) c l t d h = refl
 copied_text _ c l t d h = absurd (true≢false (sym h))
@@ -112,15 +112,15 @@ copies_no_locals e h g = sym (place_counts e h) ∙ no_locals e g
 pub copies_locals : (e : TypedExpr) → is_place e ≡ true → is_variable (root e) ≡ false → locals e ≡ 1 + locals (root e)
 copies_locals e h g = sym (place_counts e h) ∙ root_locals e g
 
-pub copies_variable : (e : TypedExpr) (c : Around) (l t d : ℕ) → is_place e ≡ true → is_variable (root e) ≡ true → into e c l t d ≡ puts (span_of e) d (Use (Copy (place_of c.scope 0 e))) ∷ []
+pub copies_variable : (e : TypedExpr) (c : Around) (l t d : ℕ) → is_place e ≡ true → is_variable (root e) ≡ true → into e c l t d ≡ puts (span_of e) d (Use (taken (is_copied c.types (ty_of e)) (place_of c.scope 0 e))) ∷ []
 copies_variable e c l t d h g =
     copied_text e c l t d h
-    ∙ ap (λ xs. xs ++ puts (span_of e) d (Use (Copy (place_of c.scope t e))) ∷ []) (nothing_before e c l t g)
-    ∙ ap (λ p. puts (span_of e) d (Use (Copy p)) ∷ []) (same_place c.scope t e g)
+    ∙ ap (λ xs. xs ++ puts (span_of e) d (Use (taken (is_copied c.types (ty_of e)) (place_of c.scope t e))) ∷ []) (nothing_before e c l t g)
+    ∙ ap (λ p. puts (span_of e) d (Use (taken (is_copied c.types (ty_of e)) p)) ∷ []) (same_place c.scope t e g)
 
 pub copies_temporary : (e : TypedExpr) (c : Around) (l t d : ℕ) → is_place e ≡ true → is_variable (root e) ≡ false
-    → into e c l t d ≡ Makes t (ty_of (root e)) ∷ (into (root e) c l (t + 1) t ++ puts (span_of e) d (Use (Copy (place_of c.scope t e))) ∷ [])
-copies_temporary e c l t d h g = copied_text e c l t d h ∙ ap (λ xs. xs ++ puts (span_of e) d (Use (Copy (place_of c.scope t e))) ∷ []) (root_before e c l t g)
+    → into e c l t d ≡ Makes t (ty_of (root e)) ∷ (into (root e) c l (t + 1) t ++ puts (span_of e) d (Use (taken (is_copied c.types (ty_of e)) (place_of c.scope t e))) ∷ [])
+copies_temporary e c l t d h g = copied_text e c l t d h ∙ ap (λ xs. xs ++ puts (span_of e) d (Use (taken (is_copied c.types (ty_of e)) (place_of c.scope t e))) ∷ []) (root_before e c l t g)
 
 pub ruleset walking = (no_part_root, root_of_part, part_smaller, part_reaches, place_of_part, one_part_more)
 

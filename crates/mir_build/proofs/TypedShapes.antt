@@ -25,9 +25,10 @@ use Rattle.type_check.specs.WellTyped.{unit, operation_ty, is_signed, Surroundin
 use Rattle.mir_build.specs.declared.around.Loop.{Loop}
 use Rattle.mir_build.specs.Text.{Line, Leaves}
 use Rattle.mir_build.specs.Lowering.{Around, Formula, accepted, whole, binds, looping, innermost, puts, puts_at, put_unit, moved, ends, made_by, dies_in, die_from, test, fork, calls, turning, spinning, circling, returning, lazily}
-use Rattle.mir_build.specs.Lowering.{Into, of_integer, of_truth, of_variable, of_negative, of_denied, of_binary, of_lazy, of_assign, of_update, of_call, of_make, of_part, of_block, of_branch, of_choice, of_leaving_choice, of_repeat, of_panics, of_returned, of_endless, of_until_break, of_break_off, of_go_on}
+use Rattle.mir_build.specs.Lowering.{by_copy, by_move, Into, of_integer, of_truth, of_variable, of_negative, of_denied, of_binary, of_lazy, of_assign, of_update, of_call, of_make, of_part, of_block, of_branch, of_choice, of_leaving_choice, of_repeat, of_panics, of_returned, of_endless, of_until_break, of_break_off, of_go_on}
 use Rattle.mir_build.specs.Lowering.{Rest, of_done, of_last, of_leaving, of_bind, of_run, Args, of_none, of_more, PlaceOf, of_name, of_part_place, of_temporary, IntoBody, of_outermost, of_other}
 use Rattle.mir_build.proofs.Leaving.{panics_scalar, leaving_value, leaving_leaves, leaving_scalar, Serves, itself, at_type, serves_scalar, last_serves, side_serves, sides_serve}
+use Rattle.mir_build.proofs.Taking.{scalar_copy}
 use Rattle.mir_build.proofs.PlainTyping.{IsPlainlyTyped, StatementsFitPlainly, ArgumentsFitPlainly}
 
 -- the temporaries that a value takes, the last one first, with their types, and its own type
@@ -98,7 +99,8 @@ module _ (σ : Surroundings) (Writes : Around → List Ty → List (ℕ × Ty) �
     of_typed : (i : Bool) (c : Around) (e : TypedExpr) (d : ℕ) (xs : List Line) → Into c e d xs → (Γ : List Ty) → IsPlainlyTyped (within_loop i σ) Γ e → (d' : ℕ) (U : Ty) → Serves (leaves e) d (ty_of e) d' U → Writes c Γ [] d' U xs
     of_typed i c e d xs of_integer Γ h d' U w = valued c Γ _ d _ d' U _ refl w (keeps.put c Γ [] _ d _ _ (of_number h))
     of_typed i c e d xs of_truth Γ h d' U w = valued c Γ _ d _ d' U _ refl w (keeps.put c Γ [] _ d _ _ (of_bool h))
-    of_typed i c e d xs (of_variable {v = v} x q) Γ h d' U w = valued c Γ _ d _ d' U _ refl w (keeps.put c Γ [] _ d _ _ (of_copy v x q h))
+    of_typed i c e d xs (of_variable {v = v} x q (by_copy k)) Γ h d' U w = valued c Γ _ d _ d' U _ refl w (keeps.put c Γ [] _ d _ _ (of_copy v x q h.0))
+    of_typed i c e d xs (of_variable {ty = ty} x q (by_move k)) Γ h d' U w = absurd (k (scalar_copy c.types ty h.1))
     of_typed i c e d xs (of_negative {t = t} {xs = us} p) Γ h d' U w = valued c Γ _ d _ d' U _ refl w (keeps.made c Γ [] t _ us d _ _ (of_typed i c _ t us p Γ h.4 t _ itself) (keeps.put c Γ _ _ d _ _ (of_minus h.0 h.1 h.2 h.3)))
     of_typed i c e d xs (of_denied {t = t} {xs = us} p) Γ h d' U w = valued c Γ _ d _ d' U _ refl w (keeps.made c Γ [] t _ us d _ _ (of_typed i c _ t us p Γ h.2 t _ itself) (keeps.put c Γ _ _ d _ _ (of_not h.0 h.1)))
     of_typed i c e d xs (of_binary {t = t} {u = u} {xs = us} {ys = vs} p q) Γ h d' U w =
@@ -113,7 +115,7 @@ module _ (σ : Surroundings) (Writes : Around → List Ty → List (ℕ × Ty) �
         valued c Γ _ d _ d' U _ refl w (keeps.made c Γ [] t _ us d _ _ (of_typed i c _ t us p Γ h.4 t _ itself) (keeps.updated c Γ s op t u _ x _ d _ vs h.2 h.1 h.0 (of_place i c _ x vs q Γ h.3)))
     of_typed i c e d xs (of_call {s = s} {f = f} {ts = ts} after {xs = us} p) Γ h d' U w = valued c Γ _ d _ d' U _ refl w (keeps.called c Γ s f h.0 ts after d _ us h.1 h.2 (of_args i c _ ts us p Γ h.0.params h.3))
     of_typed i c e d xs (of_make p) Γ h d' U w = absurd h
-    of_typed i c e d xs (of_part p) Γ h d' U w = absurd h
+    of_typed i c e d xs (of_part p k) Γ h d' U w = absurd h
     of_typed i c e d xs (of_block p) Γ h d' U w = of_rest i c _ _ _ d xs p Γ _ h d' U w
     of_typed i c e d xs (of_branch {s = s} {t = t} yes' no' after {xs = us} {ys = vs} p q) Γ h d' U w =
         valued c Γ _ d _ d' U _ refl w
@@ -157,7 +159,7 @@ module _ (σ : Surroundings) (Writes : Around → List Ty → List (ℕ × Ty) �
     of_args i c es ts xs (of_more {t = t} {ts = us'} {xs = us} {ys = vs} p q) Γ (T ∷ Ts) h = keeps.argument c Γ t T _ us us' Ts vs h.0 (of_typed i c _ t us p Γ h.1 t _ itself) (of_args i c _ us' vs q Γ Ts h.2)
 
     of_place : (i : Bool) (c : Around) (e : TypedExpr) (x : Place) (xs : List Line) → PlaceOf c e x xs → (Γ : List Ty) → IsPlainlyTyped (within_loop i σ) Γ e → Names c Γ x (ty_of e) xs
-    of_place i c e x xs (of_name {v = v} y q) Γ h = keeps.named c Γ v y _ q h
+    of_place i c e x xs (of_name {v = v} y q) Γ h = keeps.named c Γ v y _ q h.0
     of_place i c e x xs (of_part_place p) Γ h = absurd h
     of_place i c e x xs (of_temporary {t = t} {xs = us} n p) Γ h = keeps.temporary c Γ t _ us (of_typed i c e t us p Γ h t _ itself)
 

@@ -4,6 +4,7 @@ use Rattle.std.specs.List.{slice_get}
 use Rattle.std.proofs.lemmas.List.{length-map}
 use Rattle.std.proofs.lemmas.Option.{slice_get_read}
 use Rattle.text_core.specs.Names.{text_of}
+use Rattle.logic_term.specs.declared.declaration.AdtDecl.{AdtDecl}
 use Rattle.logic_term.specs.declared.kinds.Label.{Label}
 use Rattle.logic_term.specs.declared.obligation.Contract.{Contract}
 use Rattle.logic_term.specs.Ty.{Ty}
@@ -134,32 +135,32 @@ length-counted : {A : Type 0} (n : ℕ) (xs : List A) → length (counted n xs) 
 length-counted n [] = refl
 length-counted n (x ∷ xs) = ap suc (length-counted (n + 1) xs)
 
-is_for : (f : TypedFunction) → length f.signature.params ≡ length (around_body f).scope
-is_for f = sym (length-map (counted 1 f.signature.params) whole ∙ length-counted 1 f.signature.params)
+is_for : (ds : List AdtDecl) (f : TypedFunction) → length f.signature.params ≡ length (around_body ds f).scope
+is_for ds f = sym (length-map (counted 1 f.signature.params) whole ∙ length-counted 1 f.signature.params)
 
-built_parts : (f : TypedFunction) → built f ≡ text_at (closed (fresh (entry_title (label 0))) (text_of_body f)) (behind (fresh (entry_title (label 0))) (text_of_body f)) (f.signature.answer ∷ (f.signature.params ++ types (text_of_body f))) (map gone_at (owned (text_of_body f)))
-built_parts f = written_parts (text_of_body f) [] (fresh (entry_title (label 0))) (f.signature.answer ∷ f.signature.params) []
+built_parts : (ds : List AdtDecl) (f : TypedFunction) → built ds f ≡ text_at (closed (fresh (entry_title (label 0))) (text_of_body ds f)) (behind (fresh (entry_title (label 0))) (text_of_body ds f)) (f.signature.answer ∷ (f.signature.params ++ types (text_of_body ds f))) (map gone_at (owned (text_of_body ds f)))
+built_parts ds f = written_parts (text_of_body ds f) [] (fresh (entry_title (label 0))) (f.signature.answer ∷ f.signature.params) []
 
 -- the blocks of what is built, when it has left
-blocks_are : (f : TypedFunction) (t : Terminator) → (built f).blocks ++ ended (built f).front t ≡ closed (fresh (entry_title (label 0))) (text_of_body f ++ Leaves t ∷ [])
-blocks_are f t =
+blocks_are : (ds : List AdtDecl) (f : TypedFunction) (t : Terminator) → (built ds f).blocks ++ ended (built ds f).front t ≡ closed (fresh (entry_title (label 0))) (text_of_body ds f ++ Leaves t ∷ [])
+blocks_are ds f t =
     let o = fresh (entry_title (label 0)) in
-    let text = text_of_body f in
-    ap (λ (x : BodyText). x.blocks ++ ended x.front t) (built_parts f) ∙ ap (λ bs. closed o text ++ bs) (as_ended (behind o text) t) ∙ sym (closed_end text o t)
+    let text = text_of_body ds f in
+    ap (λ (x : BodyText). x.blocks ++ ended x.front t) (built_parts ds f) ∙ ap (λ bs. closed o text ++ bs) (as_ended (behind o text) t) ∙ sym (closed_end text o t)
 
-pub lowered : (σ : List Signature) (id : ℕ) (owner : List ℕ) (f : TypedFunction) → FunctionFits σ f → bad_in f.body ≡ None → length (built f).locals < 2 ^ 32 → LowersTo σ owner f (body_of σ id owner f (built f)) (record { gone = (built f).gone })
-lowered σ id owner f w g few =
-    let text = text_of_body f in
-    let parts = built_parts f in
-    let order = (body_fills f.body (around_body f) 1 (1 + length f.signature.params)).order in
-    let row = lowers_body (surroundings_of σ f.signature) f.signature.params f.body (around_body f) 1 (1 + length f.signature.params) (is_for f) (λ e. absurd (outside_loops e)) w.body g in
+pub lowered : (ds : List AdtDecl) (σ : List Signature) (id : ℕ) (owner : List ℕ) (f : TypedFunction) → FunctionFits ds σ f → bad_in f.body ≡ None → length (built ds f).locals < 2 ^ 32 → LowersTo ds σ owner f (body_of σ id owner f (built ds f)) (record { gone = (built ds f).gone })
+lowered ds σ id owner f w g few =
+    let text = text_of_body ds f in
+    let parts = built_parts ds f in
+    let order = (body_fills f.body (around_body ds f) 1 (1 + length f.signature.params)).order in
+    let row = lowers_body (surroundings_of ds σ f.signature) f.signature.params f.body (around_body ds f) 1 (1 + length f.signature.params) (is_for ds f) (λ e. absurd (outside_loops e)) w.body g in
     let all = locals_paired f text order in
     let ts : List Ty = f.signature.answer ∷ (f.signature.params ++ types text) in
-    let same : (built f).locals ≡ ts = ap (λ (x : BodyText). x.locals) parts in
+    let same : (built ds f).locals ≡ ts = ap (λ (x : BodyText). x.locals) parts in
     record {
       text = text;
       into = row.0;
-      blocks = blocks_are f (ends (span_of f.body) Return);
+      blocks = blocks_are ds f (ends (span_of f.body) Return);
       labels_in_order = range_from 0 (0 ∷ named_body row.0) (refl, row.1);
       locals_in_order = range_from 0 (numbers (all_locals f text)) (subst (λ ms. From 0 (numbers ms)) (sym all) (paired_from 0 ts));
       locals = λ i x t h. ap (λ us. slice_get us x) same ∙ get_at ts i x t (sym (ap (λ ys. slice_get ys i) all) ∙ h);
@@ -198,21 +199,21 @@ closed_turns (Turns e b ∷ xs) o t = omega (arith, close_count o e (closed (fre
 closed_turns (Leaves e ∷ xs) o t = omega (arith, close_count o e (closed Nowhere (xs ++ Leaves t ∷ [])), closed_turns xs Nowhere t)
 closed_turns (Owns l ys ∷ xs) o t = closed_turns xs o t
 
-pub blocks_of : (σ : List Signature) (id : ℕ) (owner : List ℕ) (f : TypedFunction) → length (body_of σ id owner f (built f)).blocks ≡ 1 + labels f.body
-blocks_of σ id owner f =
+pub blocks_of : (ds : List AdtDecl) (σ : List Signature) (id : ℕ) (owner : List ℕ) (f : TypedFunction) → length (body_of σ id owner f (built ds f)).blocks ≡ 1 + labels f.body
+blocks_of ds σ id owner f =
     let end = ends (span_of f.body) Return in
-    omega (arith, ap length (blocks_are f end), closed_turns (text_of_body f) (fresh (entry_title (label 0))) end, (body_fills f.body (around_body f) 1 (1 + length f.signature.params)).turned)
+    omega (arith, ap length (blocks_are ds f end), closed_turns (text_of_body ds f) (fresh (entry_title (label 0))) end, (body_fills f.body (around_body ds f) 1 (1 + length f.signature.params)).turned)
 
-pub more_blocks : (f : TypedFunction) → 4096 < 1 + labels f.body → 4096 < blocks_in (text_of_body f)
-more_blocks f h = omega (arith, h, (body_fills f.body (around_body f) 1 (1 + length f.signature.params)).turned)
+pub more_blocks : (ds : List AdtDecl) (f : TypedFunction) → 4096 < 1 + labels f.body → 4096 < blocks_in (text_of_body ds f)
+more_blocks ds f h = omega (arith, h, (body_fills f.body (around_body ds f) 1 (1 + length f.signature.params)).turned)
 
 -- ---- programs
 
 -- the function at the place fits
-pub fits_at : (σ : List Signature) (fs : List TypedFunction) (i : ℕ) (f : TypedFunction) → EachFits σ fs → f ≡ get_or fs i f → i < length fs → FunctionFits σ f
-fits_at σ [] i f w q h = absurd (omega arith)
-fits_at σ (g ∷ fs) zero f w q h = rw q w.0
-fits_at σ (g ∷ fs) (suc i) f w q h = fits_at σ fs i f w.1 q (omega arith)
+pub fits_at : (ds : List AdtDecl) (σ : List Signature) (fs : List TypedFunction) (i : ℕ) (f : TypedFunction) → EachFits ds σ fs → f ≡ get_or fs i f → i < length fs → FunctionFits ds σ f
+fits_at ds σ [] i f w q h = absurd (omega arith)
+fits_at ds σ (g ∷ fs) zero f w q h = rw q w.0
+fits_at ds σ (g ∷ fs) (suc i) f w q h = fits_at ds σ fs i f w.1 q (omega arith)
 
 -- none of its formulas is refused
 pub good_at : (fs : List TypedFunction) (i : ℕ) (f : TypedFunction) → first_bad fs ≡ None → f ≡ get_or fs i f → i < length fs → bad_in_function f ≡ None
@@ -227,24 +228,25 @@ pub body_good : (f : TypedFunction) → bad_in_function f ≡ None → bad_in f.
 body_good f e = second_none (bad_clause f.clauses) (bad_in f.body) e
 
 -- one function more
-pub then_lower : (table : List (List ℕ)) (σ : List Signature) (n : ℕ) (fs : List TypedFunction) (bs : List Body) (cs : List Contract) (gs : List Initialised) (f : TypedFunction) (b : Body) (c : Contract) (g : Initialised) (owner : List ℕ)
-    → EachLowersTo table σ n fs bs cs gs → text_of table f.name ≡ Some owner → LowersTo σ owner f b g → HasContract f c → b.id ≡ n + length bs → EachLowersTo table σ n (fs ++ f ∷ []) (bs ++ b ∷ []) (cs ++ c ∷ []) (gs ++ g ∷ [])
-then_lower table σ n fs bs cs gs f b c g owner no_functions q w k i = and_function owner q w k (omega (arith, i)) no_functions
-then_lower table σ n (h ∷ fs) bs cs gs f b c g owner (and_function {bs = ks} other p v l d rest) q w k i =
-    and_function other p v l d (then_lower table σ (suc n) fs ks _ _ f b c g owner rest q w k (omega (arith, i)))
+pub then_lower : (table : List (List ℕ)) (ds : List AdtDecl) (σ : List Signature) (n : ℕ) (fs : List TypedFunction) (bs : List Body) (cs : List Contract) (gs : List Initialised) (f : TypedFunction) (b : Body) (c : Contract) (g : Initialised) (owner : List ℕ)
+    → EachLowersTo table ds σ n fs bs cs gs → text_of table f.name ≡ Some owner → LowersTo ds σ owner f b g → HasContract f c → b.id ≡ n + length bs → EachLowersTo table ds σ n (fs ++ f ∷ []) (bs ++ b ∷ []) (cs ++ c ∷ []) (gs ++ g ∷ [])
+then_lower table ds σ n fs bs cs gs f b c g owner no_functions q w k i = and_function owner q w k (omega (arith, i)) no_functions
+then_lower table ds σ n (h ∷ fs) bs cs gs f b c g owner (and_function {bs = ks} other p v l d rest) q w k i =
+    and_function other p v l d (then_lower table ds σ (suc n) fs ks _ _ f b c g owner rest q w k (omega (arith, i)))
 
 -- the function at the place has too many blocks
-pub too_many : (p : TypedProgram) (i : ℕ) (f : TypedFunction) → f ≡ get_or p.functions i f → i < length p.functions → 4096 < 1 + labels f.body → ProgramFits p → AllGood p → HasMoreBlocks p 4096
-too_many p i f q h more w g =
+pub too_many : (ds : List AdtDecl) (p : TypedProgram) (i : ℕ) (f : TypedFunction) → f ≡ get_or p.functions i f → i < length p.functions → 4096 < 1 + labels f.body → ProgramFits ds p → AllGood p → HasMoreBlocks p 4096
+too_many ds p i f q h more w g =
     let σ = signatures p.functions in
-    let fits = fits_at σ p.functions i f w q h in
+    let fits = fits_at ds σ p.functions i f w q h in
     record {
       function = f;
       place = i;
       is_function = slice_get_read p.functions (length p.functions) i f refl h q;
-      text = text_of_body f;
-      into = (lowers_body (surroundings_of σ f.signature) f.signature.params f.body (around_body f) 1 (1 + length f.signature.params) (is_for f) (λ e. absurd (outside_loops e)) fits.body (body_good f (good_at p.functions i f g q h))).0;
-      more = more_blocks f more;
+      types = ds;
+      text = text_of_body ds f;
+      into = (lowers_body (surroundings_of ds σ f.signature) f.signature.params f.body (around_body ds f) 1 (1 + length f.signature.params) (is_for ds f) (λ e. absurd (outside_loops e)) fits.body (body_good f (good_at p.functions i f g q h))).0;
+      more = more_blocks ds f more;
     }
 
 pub fails_for : (P Q : Type 0) (e : PassError) → (P → Q) → FailsFor P e → FailsFor Q e
@@ -254,11 +256,11 @@ fails_for P Q (errors.Source e) f h = h
 
 -- ---- what is answered
 
-pub answered : (σ : List Signature) (id : ℕ) (owner : List ℕ) (f : TypedFunction) (x : BodyText) (b : Body) (g : Initialised) → x ≡ built f → b ≡ body_of σ id owner f x → g ≡ record { gone = x.gone }
-    → length x.locals < 2 ^ 32 → FunctionFits σ f → bad_in f.body ≡ None → LowersTo σ b.owner f b g
-answered σ id owner f x b g p q r few w k =
-    let small : length (built f).locals < 2 ^ 32 = omega (arith, few, ap (λ (y : BodyText). length y.locals) p) in
-    rw (q, r, p) (lowered σ id owner f w k small)
+pub answered : (ds : List AdtDecl) (σ : List Signature) (id : ℕ) (owner : List ℕ) (f : TypedFunction) (x : BodyText) (b : Body) (g : Initialised) → x ≡ built ds f → b ≡ body_of σ id owner f x → g ≡ record { gone = x.gone }
+    → length x.locals < 2 ^ 32 → FunctionFits ds σ f → bad_in f.body ≡ None → LowersTo ds σ b.owner f b g
+answered ds σ id owner f x b g p q r few w k =
+    let small : length (built ds f).locals < 2 ^ 32 = omega (arith, few, ap (λ (y : BodyText). length y.locals) p) in
+    rw (q, r, p) (lowered ds σ id owner f w k small)
 
-pub few_blocks : (σ : List Signature) (id : ℕ) (owner : List ℕ) (f : TypedFunction) (x : BodyText) (b : Body) → x ≡ built f → b ≡ body_of σ id owner f x → 1 + labels f.body ≤ 4096 → length b.blocks ≤ 4096
-few_blocks σ id owner f x b p q few = rw (q, p) (omega (arith, few, blocks_of σ id owner f))
+pub few_blocks : (ds : List AdtDecl) (σ : List Signature) (id : ℕ) (owner : List ℕ) (f : TypedFunction) (x : BodyText) (b : Body) → x ≡ built ds f → b ≡ body_of σ id owner f x → 1 + labels f.body ≤ 4096 → length b.blocks ≤ 4096
+few_blocks ds σ id owner f x b p q few = rw (q, p) (omega (arith, few, blocks_of ds σ id owner f))

@@ -47,11 +47,11 @@ abbrev pub started : Title → List Ty → BodyText
 started b ts = record { blocks = []; front = opened b; locals = ts; gone = [] }
 
 abbrev pub around : RustAround → Around
-around c = record { scope = c.scope.items; loops = c.loops.items }
+around c = record { types = c.types.now; scope = c.scope.items; loops = c.loops.items }
 
 -- around the innermost loop
 abbrev pub outside : Around → Around
-outside c = record { scope = c.scope; loops = take (length c.loops - 1) c.loops }
+outside c = record { types = c.types; scope = c.scope; loops = take (length c.loops - 1) c.loops }
 
 -- the term of a formula, with terms for names
 abbrev pub term_with : List Replacement → Formula → Term

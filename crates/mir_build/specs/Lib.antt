@@ -4,6 +4,7 @@ pub mod Bindings
 pub mod Lowering
 pub mod Numbered
 pub mod Reach
+pub mod Taking
 pub mod Tasks
 pub mod Text
 pub mod Whole

@@ -23,6 +23,7 @@ use Rattle.source_kinds.specs.declared.kinds.LazyOp.{LazyOp}
 use Rattle.source_kinds.specs.declared.kinds.LazyOp.TheVariants as lazy_op
 use Rattle.type_check.specs.declared.program.ClauseKind.{ClauseKind}
 use Rattle.type_check.specs.declared.program.ClauseKind.TheVariants.{Requires, Ensures}
+use Rattle.rs_types.specs.Copied.{IsCopy}
 use Rattle.mir_ir.specs.declared.place.Lit.{Lit}
 use Rattle.mir_ir.specs.declared.place.Lit.TheVariants as lit
 use Rattle.mir_ir.specs.declared.place.Operand.{Operand}
@@ -70,9 +71,10 @@ whole x = record { local = x; path = [] }
 abbrev pub part_place : Place → ℕ → Place
 part_place p n = record { local = p.local; path = p.path ++ Field n ∷ [] }
 
--- the place of each variable in scope, and the loops around, both the outermost first. A loop has its head, the block behind it, and
--- how many variables are in scope around it
+-- the declared types, the place of each variable in scope, and the loops around, both the outermost first. A loop has its head, the block behind
+-- it, and how many variables are in scope around it
 pub record Around : Type 0 where
+  pub types : List AdtDecl
   pub scope : List Place
   pub loops : List Loop
 
@@ -82,10 +84,10 @@ heads ls = map (λ (l : Loop). l.head) ls
 
 -- a binding is a local of its own
 abbrev pub binds : Around → ℕ → Around
-binds c x = record { scope = c.scope ++ whole x ∷ []; loops = c.loops }
+binds c x = record { types = c.types; scope = c.scope ++ whole x ∷ []; loops = c.loops }
 
 abbrev pub looping : Around → (head after : Label) → Around
-looping c head after = record { scope = c.scope; loops = c.loops ++ record { head = head; after = after; depth = length c.scope } ∷ [] }
+looping c head after = record { types = c.types; scope = c.scope; loops = c.loops ++ record { head = head; after = after; depth = length c.scope } ∷ [] }
 
 abbrev pub at : Around → Label → Title
 at c l = record { label = l; nest = heads c.loops; head = None }
@@ -222,6 +224,11 @@ lazily lazy_op.Or c s t d yes' no' after ys = test c s t yes' no' after (constan
 
 -- ---- rows
 
+-- the operand that takes what is at a place of the type: a Copy type is copied, another is moved
+pub data Takes (ds : List AdtDecl) (t : Ty) (p : Place) : Operand → Type 0 where
+  by_copy : IsCopy ds t → Takes ds t p (Copy p)
+  by_move : (IsCopy ds t → ⊥) → Takes ds t p (Move p)
+
 -- the expression names a place: a variable does, and a part
 abbrev pub is_place : TypedExpr → Bool
 is_place (variable ty s v) = true
@@ -233,7 +240,7 @@ mutual
   pub data Into : Around → TypedExpr → ℕ → List Line → Type 0 where
     of_integer : {c : Around} {ty : Ty} {s : Span} {z : ℤ} {k : IntKind} {d : ℕ} → Into c (integer ty s z k) d (constant s d (lit.Int z k) ∷ [])
     of_truth : {c : Around} {ty : Ty} {s : Span} {b : Bool} {d : ℕ} → Into c (typed.truth ty s b) d (constant s d (lit.Bool b) ∷ [])
-    of_variable : {c : Around} {ty : Ty} {s : Span} {v d : ℕ} (p : Place) → slice_get c.scope v ≡ Some p → Into c (variable ty s v) d (puts s d (Use (Copy p)) ∷ [])
+    of_variable : {c : Around} {ty : Ty} {s : Span} {v d : ℕ} {o : Operand} (p : Place) → slice_get c.scope v ≡ Some p → Takes c.types ty p o → Into c (variable ty s v) d (puts s d (Use o) ∷ [])
     of_negative : {c : Around} {ty : Ty} {s : Span} {e : TypedExpr} {d t : ℕ} {xs : List Line} → Into c e t xs → Into c (negative ty s e) d (made_by t (ty_of e) xs ++ puts s d (Neg (moved t)) ∷ [])
     of_denied : {c : Around} {ty : Ty} {s : Span} {e : TypedExpr} {d t : ℕ} {xs : List Line} → Into c e t xs → Into c (denied ty s e) d (made_by t (ty_of e) xs ++ puts s d (Not (moved t)) ∷ [])
     of_binary : {c : Around} {ty : Ty} {s : Span} {op : BinaryOp} {a b : TypedExpr} {d t u : ℕ} {xs ys : List Line} → Into c a t xs → Into c b u ys
@@ -246,8 +253,7 @@ mutual
         → Into c (update ty s op a e) d (made_by t (ty_of e) xs ++ (ys ++ (made_by u (ty_of e) (puts s u (Binary op (Copy p) (moved t)) ∷ []) ++ puts_at s p (Use (moved u)) ∷ put_unit s d ∷ [])))
     of_call : {c : Around} {ty : Ty} {s : Span} {f : ℕ} {es : TypedExprs} {d : ℕ} {ts : List ℕ} (after : Label) {xs : List Line} → Args c es ts xs → Into c (call ty s f es) d (xs ++ calls c s f d ts after ∷ [])
     of_make : {c : Around} {ty : Ty} {s : Span} {k : Ctor} {es : TypedExprs} {d : ℕ} {ts : List ℕ} {xs : List Line} → Args c es ts xs → Into c (make ty s k es) d (xs ++ puts s d (Make k (map moved ts)) ∷ [])
-    -- of a type that is copied; so far each built type is
-    of_part : {c : Around} {ty : Ty} {s : Span} {e : TypedExpr} {n d : ℕ} {p : Place} {xs : List Line} → PlaceOf c (part ty s e n) p xs → Into c (part ty s e n) d (xs ++ puts s d (Use (Copy p)) ∷ [])
+    of_part : {c : Around} {ty : Ty} {s : Span} {e : TypedExpr} {n d : ℕ} {p : Place} {o : Operand} {xs : List Line} → PlaceOf c (part ty s e n) p xs → Takes c.types ty p o → Into c (part ty s e n) d (xs ++ puts s d (Use o) ∷ [])
     of_block : {c : Around} {ty : Ty} {s : Span} {ss : TypedStmts} {d : ℕ} {xs : List Line} → Rest c false s ss d xs → Into c (block ty s ss) d xs
     of_branch : {c : Around} {ty : Ty} {s : Span} {e a : TypedExpr} {d t : ℕ} (yes' no' after : Label) {xs ys : List Line} → Into c e t xs → Into c a d ys
         → Into c (branch ty s e a) d (made_by t (ty_of e) xs ++ test c s t yes' no' after ys (put_unit s d ∷ []))
@@ -307,7 +313,7 @@ abbrev mutual
   pub named : {c : Around} {e : TypedExpr} {d : ℕ} {xs : List Line} → Into c e d xs → List ℕ
   named of_integer = []
   named of_truth = []
-  named (of_variable x q) = []
+  named (of_variable x q k) = []
   named (of_negative p) = named p
   named (of_denied p) = named p
   named (of_binary p q) = named p ++ named q
@@ -316,7 +322,7 @@ abbrev mutual
   named (of_update u p q) = named p ++ named_place q
   named (of_call after p) = named_args p ++ after.0 ∷ []
   named (of_make p) = named_args p
-  named (of_part p) = named_place p
+  named (of_part p k) = named_place p
   named (of_block p) = named_rest p
   named (of_branch yes' no' after p q) = named p ++ yes'.0 ∷ no'.0 ∷ after.0 ∷ named q
   named (of_choice yes' no' after n p q r) = named p ++ yes'.0 ∷ no'.0 ∷ after.0 ∷ (named q ++ named r)
@@ -407,8 +413,8 @@ abbrev pub gone_at : Label × List ℕ → Point × List Place
 gone_at g = (record { label = g.0; statement = 0 }, map whole g.1)
 
 -- around the outermost block the parameters are in scope, which are locals from 1 on
-abbrev pub around_body : TypedFunction → Around
-around_body f = record { scope = map whole (counted 1 f.signature.params); loops = [] }
+abbrev pub around_body : List AdtDecl → TypedFunction → Around
+around_body ds f = record { types = ds; scope = map whole (counted 1 f.signature.params); loops = [] }
 
 -- the types of a function, as calls look them up; so far functions have no lifetimes
 abbrev pub types_of_call : Signature → CallSignature
@@ -428,10 +434,10 @@ abbrev pub calls_of : List Signature → List (Label × Block) → List (Label �
 calls_of σ [] = []
 calls_of σ (k ∷ ks) = with_call k.0 (called σ k.1.end.kind) (calls_of σ ks)
 
--- the body of a function, and what may be gone where in it: local 0 is the answer, then come the parameters
-pub record LowersTo (σ : List Signature) (owner : List ℕ) (f : TypedFunction) (b : Body) (gone : Initialised) : Type 0 where
+-- the body of a function of a program that declares these types, and what may be gone where in it: local 0 is the answer, then come the parameters
+pub record LowersTo (ds : List AdtDecl) (σ : List Signature) (owner : List ℕ) (f : TypedFunction) (b : Body) (gone : Initialised) : Type 0 where
   pub text : List Line
-  pub into : IntoBody (around_body f) f.body text
+  pub into : IntoBody (around_body ds f) f.body text
   -- behind its text the body returns
   pub blocks : b.blocks ≡ closed (fresh (entry_title b.entry)) (text ++ Leaves (ends (span_of f.body) Return) ∷ [])
   -- the entry has label 0, and the rows name the labels 1, 2 and so on
@@ -454,15 +460,15 @@ pub record LowersTo (σ : List Signature) (owner : List ℕ) (f : TypedFunction)
   pub holds_nothing : gone.gone ≡ map gone_at (owned text)
 
 -- the functions from number n on, each with its text, lower to these bodies, contracts and gone places, one for each
-pub data EachLowersTo (table : List (List ℕ)) (σ : List Signature) : ℕ → List TypedFunction → List Body → List Contract → List Initialised → Type 0 where
-  no_functions : {n : ℕ} → EachLowersTo table σ n [] [] [] []
+pub data EachLowersTo (table : List (List ℕ)) (ds : List AdtDecl) (σ : List Signature) : ℕ → List TypedFunction → List Body → List Contract → List Initialised → Type 0 where
+  no_functions : {n : ℕ} → EachLowersTo table ds σ n [] [] [] []
   and_function : {n : ℕ} {f : TypedFunction} {fs : List TypedFunction} {b : Body} {bs : List Body} {c : Contract} {cs : List Contract} {gone : Initialised} {gones : List Initialised} (owner : List ℕ)
-      → text_of table f.name ≡ Some owner → LowersTo σ owner f b gone → HasContract f c → b.id ≡ n → EachLowersTo table σ (suc n) fs bs cs gones
-      → EachLowersTo table σ n (f ∷ fs) (b ∷ bs) (c ∷ cs) (gone ∷ gones)
+      → text_of table f.name ≡ Some owner → LowersTo ds σ owner f b gone → HasContract f c → b.id ≡ n → EachLowersTo table ds σ (suc n) fs bs cs gones
+      → EachLowersTo table ds σ n (f ∷ fs) (b ∷ bs) (c ∷ cs) (gone ∷ gones)
 
 -- the functions of a program that declares these types lower to these; so far it has no impls and no closures
 pub record LowerTo (table : List (List ℕ)) (ds : List AdtDecl) (fs : List TypedFunction) (bodies : Bodies) (cs : Contracts) (gones : List Initialised) : Type 0 where
-  pub each : EachLowersTo table (signatures fs) 0 fs bodies.bodies cs.of gones
+  pub each : EachLowersTo table ds (signatures fs) 0 fs bodies.bodies cs.of gones
   pub decls : bodies.decls ≡ ds
   pub impls : bodies.impls ≡ []
   pub closures : bodies.closures ≡ []
@@ -478,11 +484,12 @@ IsLowered table ds p l = LowerTo table ds p.functions l.bodies l.contracts l.gon
 abbrev pub blocks_in : List Line → ℕ
 blocks_in xs = 1 + length (begun xs)
 
--- the text of some function has more blocks than the bound
+-- the text of some function has more blocks than the bound. The declared types, which say what is copied, make none
 pub record HasMoreBlocks (p : TypedProgram) (bound : ℕ) : Type 0 where
   pub function : TypedFunction
   pub place : ℕ
   pub is_function : slice_get p.functions place ≡ Some function
+  pub types : List AdtDecl
   pub text : List Line
-  pub into : IntoBody (around_body function) function.body text
+  pub into : IntoBody (around_body types function) function.body text
   pub more : bound < blocks_in text

@@ -19,6 +19,7 @@ use Rattle.type_check.specs.TypedExpr.{TypedExpr, TypedStmts, TypedExprs, intege
 use Rattle.type_check.specs.Leaves.{leaves}
 use Rattle.type_check.specs.TypedExprView.{ty_of}
 use Rattle.mir_build.specs.declared.around.Loop.{Loop}
+use Rattle.mir_build.specs.Taking.{is_copied, taken}
 use Rattle.mir_build.specs.Text.{Line, Makes, Turns, Leaves, Owns}
 use Rattle.mir_build.specs.Lowering.{Around, Formula, binds, looping, at, at_head, head_of, whole, part_place, puts, puts_at, constant, put_unit, moved, ends, dies_in, die_from, lazily, test, fork, is_place}
 
@@ -167,7 +168,7 @@ abbrev mutual
   pub into : TypedExpr → Around → ℕ → ℕ → ℕ → List Line
   into (integer ty s z k) c l t d = constant s d (lit.Int z k) ∷ []
   into (truth ty s b) c l t d = constant s d (lit.Bool b) ∷ []
-  into (variable ty s v) c l t d = puts s d (Use (Copy (variable_place c.scope v))) ∷ []
+  into (variable ty s v) c l t d = puts s d (Use (taken (is_copied c.types ty) (variable_place c.scope v))) ∷ []
   into (negative ty s e) c l t d = Makes t (ty_of e) ∷ (into e c l (t + 1) t ++ puts s d (Neg (moved t)) ∷ [])
   into (denied ty s e) c l t d = Makes t (ty_of e) ∷ (into e c l (t + 1) t ++ puts s d (Not (moved t)) ∷ [])
   into (binary ty s op a b) c l t d =
@@ -190,7 +191,7 @@ abbrev mutual
       let m = l + labels_in es in
       args es c l t ++ Turns (ends s (Call (whole d) (Function (fn_id.Body f)) [] (map moved (temporaries es t)) (label m))) (at c (label m)) ∷ []
   into (make ty s k es) c l t d = args es c l t ++ puts s d (Make k (map moved (temporaries es t))) ∷ []
-  into (part ty s e n) c l t d = place_text (is_place e) t (ty_of e) (place_before e c l t) (into e c l (t + 1) t) ++ puts s d (Use (Copy (part_place (place_of c.scope t e) n))) ∷ []
+  into (part ty s e n) c l t d = place_text (is_place e) t (ty_of e) (place_before e c l t) (into e c l (t + 1) t) ++ puts s d (Use (taken (is_copied c.types ty) (part_place (place_of c.scope t e) n))) ∷ []
   into (block ty s ss) c l t d = rest ss false s c l t d
   into (branch ty s e a) c l t d =
       let m = l + labels e in

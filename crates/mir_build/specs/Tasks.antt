@@ -15,6 +15,7 @@ use Rattle.mir_build.specs.declared.task.Behind.{Behind}
 use Rattle.mir_build.specs.declared.task.Behind.TheVariants as behind
 use Rattle.mir_build.specs.declared.task.Task.{Task}
 use Rattle.mir_build.specs.declared.task.Task.TheVariants.{Lower, Finish}
+use Rattle.mir_build.specs.Taking.{is_copied, taken}
 use Rattle.mir_build.specs.Text.{Line, Makes}
 use Rattle.mir_build.specs.Lowering.{Around, part_place, puts, puts_at, put_unit, moved, lazily}
 use Rattle.mir_build.specs.Numbered.{label, place_of, labels, locals, into}
@@ -67,7 +68,7 @@ behind_text (behind.Assign a v) s t d c l u = puts_at s (place_of c.scope t a.no
 behind_text (behind.Update op a ty v) s t d c l u =
     let p = place_of c.scope t a.now in
     Makes u ty.now ∷ puts s u (Binary op (Copy p) (moved v)) ∷ puts_at s p (Use (moved u)) ∷ put_unit s d ∷ []
-behind_text (behind.Part e) s t d c l u = puts s d (Use (Copy (place_of c.scope t e.now))) ∷ []
+behind_text (behind.Part e) s t d c l u = puts s d (Use (taken (is_copied c.types (ty_of e.now)) (place_of c.scope t e.now))) ∷ []
 
 abbrev pub behind_size : Behind → ℕ
 behind_size (behind.Binary op b) = typed_size b.now

@@ -5,6 +5,7 @@ use Rattle.text_core.specs.declared.refusal.Limit.{Limit}
 use Rattle.text_core.specs.declared.refusal.LimitKind.TheVariants.{Blocks}
 use Rattle.text_core.specs.declared.fault.PassError.{PassError}
 use Rattle.text_core.specs.declared.fault.PassError.TheVariants as errors
+use Rattle.logic_term.specs.declared.declaration.AdtDecl.{AdtDecl}
 use Rattle.logic_term.specs.declared.obligation.Contract.{Contract}
 use Rattle.mir_ir.specs.declared.body.Body.{Body}
 use Rattle.mir_ir.specs.declared.terminator.TerminatorKind.TheVariants.{Return}
@@ -19,12 +20,12 @@ use Rattle.mir_build.specs.Numbered.{body_text, label, formula_of}
 use Rattle.mir_build.specs.Built.{written, started, ended}
 use Rattle.mir_ir.specs.declared.body.Bodies.{Bodies}
 
--- the text of a function's body
-abbrev pub text_of_body : TypedFunction → List Line
-text_of_body f = body_text f.body (around_body f) 1 (1 + length f.signature.params)
+-- the text of a function's body, where these types are declared
+abbrev pub text_of_body : List AdtDecl → TypedFunction → List Line
+text_of_body ds f = body_text f.body (around_body ds f) 1 (1 + length f.signature.params)
 
-abbrev pub built : TypedFunction → BodyText
-built f = written (text_of_body f) (started (entry_title (label 0)) (f.signature.answer ∷ f.signature.params))
+abbrev pub built : List AdtDecl → TypedFunction → BodyText
+built ds f = written (text_of_body ds f) (started (entry_title (label 0)) (f.signature.answer ∷ f.signature.params))
 
 -- the body of what is built
 abbrev pub body_of : List Signature → ℕ → List ℕ → TypedFunction → BodyText → Body

@@ -8,6 +8,7 @@ ghost use Rattle.type_check.specs.VariableNames.{variable_name, answer_name};
 
 use logic_term::{Label, Replacement, Term};
 use mir_ir::{Head, Place};
+use rs_types::CopyTypes;
 use std::alloc::Global;
 use text_core::{Items, Name, NoMemory, Span};
 use type_check::Assertion;
@@ -22,9 +23,10 @@ pub(crate) struct Loop {
     pub(crate) depth: usize,
 }
 
-/// The place of each variable in scope, and the loops around, both the outermost first.
+/// Which types are `Copy`, the place of each variable in scope, and the loops around, both the outermost first.
 #[derive(Drop)]
-pub(crate) struct Around {
+pub(crate) struct Around<'a> {
+    pub(crate) types: &'a CopyTypes,
     pub(crate) scope: Vec<Place>,
     pub(crate) loops: Vec<Loop>,
 }
@@ -55,7 +57,7 @@ pub(crate) fn variable_place(
 }
 
 /// The heads around, as a block has them.
-pub(crate) fn nest(alloc: Global, c: &Around) -> Result<Items<Label>, NoMemory>
+pub(crate) fn nest(alloc: Global, c: &Around<'_>) -> Result<Items<Label>, NoMemory>
     ensures { IfOk result (λ it. it ≡ heads (around c.now).loops) }
 {
     let mut all = Items::new(alloc);
@@ -66,7 +68,7 @@ pub(crate) fn nest(alloc: Global, c: &Around) -> Result<Items<Label>, NoMemory>
 }
 
 /// The innermost loop around. No typed program asks for one where none is, and an answer that no row speaks of stands for it.
-pub(crate) fn innermost(c: &Around) -> Loop
+pub(crate) fn innermost(c: &Around<'_>) -> Loop
     ensures { result ≡ loop_at (around c.now).loops }
 {
     match c.loops.last() {
@@ -186,7 +188,7 @@ fn formula_spans(alloc: Global, assertions: &[Assertion]) -> Result<Items<Span>,
 }
 
 /// The head of a loop with these invariants, which speak of the variables in scope.
-pub(crate) fn head_of(alloc: Global, c: &Around, assertions: &[Assertion]) -> Result<Head, NoMemory>
+pub(crate) fn head_of(alloc: Global, c: &Around<'_>, assertions: &[Assertion]) -> Result<Head, NoMemory>
     requires { bad_among assertions.now ≡ None }
     ensures { IfOk result (λ h. h ≡ head_of (around c.now) (map formula_of assertions.now)) }
 {

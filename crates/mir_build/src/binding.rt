@@ -13,7 +13,7 @@ use text_core::{NoMemory, Span};
 #[tactic(auto, using(crate::proofs::Runs::running))]
 pub(crate) fn end_bindings(
     b: &mut Builder,
-    c: &mut Around,
+    c: &mut Around<'_>,
     outer: bool,
     span: Span,
     before: usize,
@@ -22,6 +22,7 @@ pub(crate) fn end_bindings(
     ensures labels { OnOk result (b.new.labels ≡ b.old.labels) }
     ensures locals { OnOk result (length b.new.text.locals ≡ length b.old.text.locals) }
     ensures scope { OnOk result (c.new.scope.items ≡ take before c.old.scope.items) }
+    ensures types { OnOk result (c.new.types ≡ c.old.types) }
     ensures loops { OnOk result (c.new.loops ≡ c.old.loops) }
 {
     while c.scope.len() > before {

@@ -294,7 +294,7 @@ impl Builder {
     pub(crate) fn turn(
         &mut self,
         alloc: Global,
-        c: &Around,
+        c: &Around<'_>,
         span: Span,
         kind: TerminatorKind,
         next: u32,
@@ -312,7 +312,7 @@ impl Builder {
     pub(crate) fn go(
         &mut self,
         alloc: Global,
-        c: &Around,
+        c: &Around<'_>,
         span: Span,
         to: u32,
         next: u32,

@@ -24,7 +24,7 @@ use crate::block_end::BlockEnd;
 use crate::builder::{Builder, moved, whole};
 use crate::jump::{lower_break, lower_continue};
 use crate::looping::{end_loop, enter_loop, leave_loop};
-use crate::operand::{copy_place, push_left, type_of};
+use crate::operand::{push_left, take, take_place, type_of};
 use crate::stop::Stop;
 use crate::task::{Behind, Pending, Task};
 use logic_term::{Ctor, Label};
@@ -37,7 +37,7 @@ use type_check::{Assertion, TypedExpr, TypedNode, TypedStmt, leaves};
 /// A new local that holds the value.
 #[cycle(lower)]
 #[tactic(auto, using(crate::proofs::Runs::running))]
-fn lower_new(alloc: Global, b: &mut Builder, c: &mut Around, e: &TypedExpr) -> Result<u32, Stop>
+fn lower_new(alloc: Global, b: &mut Builder, c: &mut Around<'_>, e: &TypedExpr) -> Result<u32, Stop>
     requires scope { reach e.now ≤ length c.old.scope.items }
     requires good { bad_in e.now ≡ None }
     ensures number { IfOk result (λ t. t ≡ length b.old.text.locals) }
@@ -60,7 +60,7 @@ fn lower_new(alloc: Global, b: &mut Builder, c: &mut Around, e: &TypedExpr) -> R
 pub(crate) fn lower_into(
     alloc: Global,
     b: &mut Builder,
-    c: &mut Around,
+    c: &mut Around<'_>,
     e: &TypedExpr,
     d: u32,
 ) -> Result<(), Stop>
@@ -87,7 +87,7 @@ pub(crate) fn lower_into(
 fn do_task<'a>(
     alloc: Global,
     b: &mut Builder,
-    c: &mut Around,
+    c: &mut Around<'_>,
     task: Task<'a>,
     tasks: &mut Vec<Task<'a>>,
 ) -> Result<(), Stop>
@@ -118,7 +118,7 @@ fn do_task<'a>(
 fn lower_left<'a>(
     alloc: Global,
     b: &mut Builder,
-    c: &mut Around,
+    c: &mut Around<'_>,
     e: &'a TypedExpr,
     d: u32,
     tasks: &mut Vec<Task<'a>>,
@@ -149,7 +149,7 @@ fn lower_left<'a>(
         TypedNode::Update(op, to, x) => lower_update(alloc, b, c, span, *op, to, x, d, tasks),
         TypedNode::Int(z, k) => Ok(b.put_constant(alloc, span, d, Lit::Int(*z, *k))?),
         TypedNode::Truth(v) => Ok(b.put_constant(alloc, span, d, Lit::Bool(*v))?),
-        TypedNode::Variable(_) | TypedNode::Part(_, _) => copy_place(alloc, b, c, e, d, tasks),
+        TypedNode::Variable(_) | TypedNode::Part(_, _) => take_place(alloc, b, c, e, d, tasks),
         TypedNode::Neg(x) => lower_neg(alloc, b, c, span, x, d),
         TypedNode::Not(x) => lower_not(alloc, b, c, span, x, d),
         TypedNode::Call(f, es) => lower_call(alloc, b, c, span, *f, es, d),
@@ -179,7 +179,7 @@ fn lower_left<'a>(
 fn lower_behind(
     alloc: Global,
     b: &mut Builder,
-    c: &mut Around,
+    c: &mut Around<'_>,
     pending: &Pending,
 ) -> Result<(), Stop>
     requires scope { behind_reach pending.now.behind ≤ length c.old.scope.items }
@@ -210,7 +210,8 @@ fn lower_behind(
         }
         Behind::Part(e) => {
             let place = lower_place(alloc, c.scope.as_slice(), e, x)?;
-            Ok(b.put(alloc, span, d, Rvalue::Use(Operand::Copy(place)))?)
+            let value = take(c.types, type_of(e), place);
+            Ok(b.put(alloc, span, d, Rvalue::Use(value))?)
         }
     }
 }
@@ -221,7 +222,7 @@ fn lower_behind(
 fn lower_neg(
     alloc: Global,
     b: &mut Builder,
-    c: &mut Around,
+    c: &mut Around<'_>,
     span: Span,
     x: &TypedExpr,
     d: u32,
@@ -246,7 +247,7 @@ fn lower_neg(
 fn lower_not(
     alloc: Global,
     b: &mut Builder,
-    c: &mut Around,
+    c: &mut Around<'_>,
     span: Span,
     x: &TypedExpr,
     d: u32,
@@ -271,7 +272,7 @@ fn lower_not(
 fn lower_assign<'a>(
     alloc: Global,
     b: &mut Builder,
-    c: &mut Around,
+    c: &mut Around<'_>,
     span: Span,
     to: &'a TypedExpr,
     x: &TypedExpr,
@@ -309,7 +310,7 @@ fn lower_assign<'a>(
 fn lower_update<'a>(
     alloc: Global,
     b: &mut Builder,
-    c: &mut Around,
+    c: &mut Around<'_>,
     span: Span,
     op: BinaryOp,
     to: &'a TypedExpr,
@@ -349,7 +350,7 @@ fn lower_update<'a>(
 fn lower_lazy(
     alloc: Global,
     b: &mut Builder,
-    c: &mut Around,
+    c: &mut Around<'_>,
     span: Span,
     op: LazyOp,
     t: u32,
@@ -394,7 +395,7 @@ fn lower_lazy(
 fn lower_branch(
     alloc: Global,
     b: &mut Builder,
-    c: &mut Around,
+    c: &mut Around<'_>,
     span: Span,
     x: &TypedExpr,
     y: &TypedExpr,
@@ -435,7 +436,7 @@ fn both_leave(x: &TypedExpr, y: &TypedExpr) -> bool
 fn lower_choice(
     alloc: Global,
     b: &mut Builder,
-    c: &mut Around,
+    c: &mut Around<'_>,
     span: Span,
     x: &TypedExpr,
     y: &TypedExpr,
@@ -465,7 +466,7 @@ fn lower_choice(
 fn lower_join(
     alloc: Global,
     b: &mut Builder,
-    c: &mut Around,
+    c: &mut Around<'_>,
     span: Span,
     x: &TypedExpr,
     y: &TypedExpr,
@@ -501,7 +502,7 @@ fn lower_join(
 fn lower_fork(
     alloc: Global,
     b: &mut Builder,
-    c: &mut Around,
+    c: &mut Around<'_>,
     span: Span,
     x: &TypedExpr,
     y: &TypedExpr,
@@ -535,7 +536,7 @@ fn lower_fork(
 fn lower_loop(
     alloc: Global,
     b: &mut Builder,
-    c: &mut Around,
+    c: &mut Around<'_>,
     span: Span,
     head: u32,
     x: &TypedExpr,
@@ -565,7 +566,7 @@ fn lower_loop(
 fn lower_repeat(
     alloc: Global,
     b: &mut Builder,
-    c: &mut Around,
+    c: &mut Around<'_>,
     span: Span,
     invariants: &[Assertion],
     x: &TypedExpr,
@@ -595,7 +596,7 @@ fn lower_repeat(
 fn lower_return(
     alloc: Global,
     b: &mut Builder,
-    c: &mut Around,
+    c: &mut Around<'_>,
     span: Span,
     x: &TypedExpr,
 ) -> Result<(), Stop>
@@ -619,7 +620,7 @@ fn lower_return(
 fn lower_endless(
     alloc: Global,
     b: &mut Builder,
-    c: &mut Around,
+    c: &mut Around<'_>,
     span: Span,
     invariants: &[Assertion],
     x: &TypedExpr,
@@ -647,7 +648,7 @@ fn lower_endless(
 fn lower_until_break(
     alloc: Global,
     b: &mut Builder,
-    c: &mut Around,
+    c: &mut Around<'_>,
     span: Span,
     invariants: &[Assertion],
     x: &TypedExpr,
@@ -675,7 +676,7 @@ fn lower_until_break(
 fn lower_call(
     alloc: Global,
     b: &mut Builder,
-    c: &mut Around,
+    c: &mut Around<'_>,
     span: Span,
     f: u32,
     es: &[TypedExpr],
@@ -706,7 +707,7 @@ fn lower_call(
 fn lower_make(
     alloc: Global,
     b: &mut Builder,
-    c: &mut Around,
+    c: &mut Around<'_>,
     span: Span,
     k: Ctor,
     es: &[TypedExpr],
@@ -732,7 +733,7 @@ fn lower_make(
 fn lower_args(
     alloc: Global,
     b: &mut Builder,
-    c: &mut Around,
+    c: &mut Around<'_>,
     es: &[TypedExpr],
 ) -> Result<Items<Operand>, Stop>
     requires scope { reach_in (exprs_of es.now) ≤ length c.old.scope.items }
@@ -760,7 +761,7 @@ fn lower_args(
 pub(crate) fn lower_rest(
     alloc: Global,
     b: &mut Builder,
-    c: &mut Around,
+    c: &mut Around<'_>,
     outer: bool,
     span: Span,
     statements: &[TypedStmt],

@@ -22,6 +22,7 @@ use mir_ir::{
     Block, Body, Callee, FnId, Initialised, Place, Signature as CallSignature, Terminator,
     TerminatorKind,
 };
+use rs_types::CopyTypes;
 use std::alloc::Global;
 use text_core::{Items, Limit, LimitKind, Name, Names, NoMemory, PassError, Text};
 use type_check::{Signature, TypedExpr, TypedFunction, TypedNode};
@@ -70,7 +71,7 @@ fn first_locals(alloc: Global, signature: &Signature) -> Result<Items<Ty>, NoMem
 fn lower_outermost(
     alloc: Global,
     b: &mut Builder,
-    c: &mut Around,
+    c: &mut Around<'_>,
     e: &TypedExpr,
 ) -> Result<(), Stop>
     requires scope { reach e.now ≤ length c.old.scope.items }
@@ -93,16 +94,17 @@ fn lower_outermost(
 }
 
 /// The text of a function's body.
-fn lower_text(alloc: Global, f: &TypedFunction) -> Result<BodyText, Stop>
+fn lower_text(alloc: Global, types: &CopyTypes, f: &TypedFunction) -> Result<BodyText, Stop>
     requires scope { reach f.now.body ≤ length f.now.signature.params }
     requires good { bad_in f.now.body ≡ None }
-    ensures text { IfOk result (λ x. x ≡ built f.now) }
+    ensures text { IfOk result (λ x. x ≡ built types.now f.now) }
     ensures few { OnOk result (1 + labels f.now.body ≤ 4096) }
     ensures limit { IfErr result (λ stop. stop ≡ Blocks → 4096 < 1 + labels f.now.body) }
 {
     let locals = first_locals(alloc, &f.signature)?;
     let scope = parameter_places(alloc, f.signature.params.as_slice())?;
     let mut c = Around {
+        types,
         scope,
         loops: Vec::new(alloc),
     };
@@ -237,13 +239,14 @@ pub(crate) fn lower_function(
     alloc: Global,
     names: &Names,
     functions: &[TypedFunction],
+    types: &CopyTypes,
     id: u32,
     f: &TypedFunction,
 ) -> Result<(Body, Initialised), PassError>
     requires scope { reach f.now.body ≤ length f.now.signature.params }
     requires good { bad_in f.now.body ≡ None }
     ensures named { IfOk result (λ r. text_of names.now f.now.name ≡ Some r.0.owner) }
-    ensures lowered { IfOk result (λ r. FunctionFits (signatures functions.now) f.now → LowersTo (signatures functions.now) r.0.owner f.now r.0 r.1) }
+    ensures lowered { IfOk result (λ r. FunctionFits types.now (signatures functions.now) f.now → LowersTo types.now (signatures functions.now) r.0.owner f.now r.0 r.1) }
     ensures numbered { IfOk result (λ r. r.0.id ≡ id) }
     ensures few { IfOk result (λ r. length r.0.blocks ≤ 4096) }
     ensures limit { IfErr result (FailsFor (4096 < 1 + labels f.now.body)) }
@@ -252,7 +255,7 @@ pub(crate) fn lower_function(
         return Err(PassError::NoMemory);
     };
     let owner = Text::from_bytes(alloc, owner.as_bytes())?;
-    match lower_text(alloc, f) {
+    match lower_text(alloc, types, f) {
         Err(stop) => Err(refused(stop)),
         Ok(text) => Ok(finish(alloc, functions, id, owner, f, text)?),
     }

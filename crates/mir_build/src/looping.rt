@@ -19,7 +19,7 @@ use type_check::Assertion;
 pub(crate) fn enter_loop(
     alloc: Global,
     b: &mut Builder,
-    c: &mut Around,
+    c: &mut Around<'_>,
     span: Span,
     invariants: &[Assertion],
     head: u32,
@@ -50,7 +50,7 @@ pub(crate) fn enter_loop(
 pub(crate) fn leave_loop(
     alloc: Global,
     b: &mut Builder,
-    c: &mut Around,
+    c: &mut Around<'_>,
     span: Span,
     head: u32,
     after: u32,
@@ -75,7 +75,7 @@ pub(crate) fn leave_loop(
 pub(crate) fn end_loop(
     alloc: Global,
     b: &mut Builder,
-    c: &mut Around,
+    c: &mut Around<'_>,
     span: Span,
     head: u32,
     first: u32,

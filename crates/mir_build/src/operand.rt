@@ -7,6 +7,7 @@ ghost use Rattle.mir_build.specs.Lowering.{is_place};
 ghost use Rattle.mir_build.specs.Numbered.{into, labels, locals};
 ghost use Rattle.mir_build.specs.Reach.{reach};
 ghost use Rattle.mir_build.specs.Built.{written, around};
+ghost use Rattle.mir_build.specs.Taking.{is_copied, taken};
 ghost use Rattle.mir_build.specs.Tasks.{to_do, tasks_text, tasks_labels, tasks_locals, tasks_size, tasks_reach, tasks_bad, tasks_weight};
 ghost use Rattle.mir_build.specs.declared.task.Task.TheVariants.{Lower, Finish};
 ghost use Rattle.mir_build.specs.declared.stop.Stop.TheVariants.{Blocks};
@@ -17,7 +18,8 @@ use crate::builder::Builder;
 use crate::stop::Stop;
 use crate::task::{Behind, Pending, Task};
 use logic_term::Ty;
-use mir_ir::{Operand, Rvalue};
+use mir_ir::{Operand, Place, Rvalue};
+use rs_types::CopyTypes;
 use std::alloc::Global;
 use text_core::Span;
 use type_check::TypedExpr;
@@ -64,12 +66,30 @@ pub(crate) fn push_left<'a>(
     Ok(())
 }
 
+/// Whether the type is `Copy`.
+#[tactic(auto, using(crate::proofs::Taking::is_copied_by))]
+fn is_copied(types: &CopyTypes, ty: &Ty) -> bool
+    ensures { result ≡ is_copied types.now ty.now }
+{
+    types.is_copy(ty)
+}
+
+/// What takes the value at a place of the type: a `Copy` type is copied, another is moved.
+pub(crate) fn take(types: &CopyTypes, ty: &Ty, place: Place) -> Operand
+    ensures { result ≡ taken (is_copied types.now ty.now) place }
+{
+    match is_copied(types, ty) {
+        true => Operand::Copy(place),
+        false => Operand::Move(place),
+    }
+}
+
 /// The value of what names a place. What is no variable, at the root of parts, goes to a temporary.
 #[tactic(auto, using(crate::proofs::Runs::running, crate::proofs::Parts::span_of_node, crate::proofs::Targets::copies))]
-pub(crate) fn copy_place<'a>(
+pub(crate) fn take_place<'a>(
     alloc: Global,
     b: &mut Builder,
-    c: &Around,
+    c: &Around<'_>,
     e: &'a TypedExpr,
     d: u32,
     tasks: &mut Vec<Task<'a>>,
@@ -94,5 +114,6 @@ pub(crate) fn copy_place<'a>(
         return push_left(alloc, b, span, root, d, Behind::Part(e), tasks);
     }
     let place = lower_place(alloc, c.scope.as_slice(), e, 0)?;
-    Ok(b.put(alloc, span, d, Rvalue::Use(Operand::Copy(place)))?)
+    let value = take(c.types, type_of(e), place);
+    Ok(b.put(alloc, span, d, Rvalue::Use(value))?)
 }

@@ -10,6 +10,7 @@ use crate::function::lower_function;
 use crate::lowered::Lowered;
 use logic_term::AdtDecl;
 use mir_ir::{Bodies, Contracts};
+use rs_types::CopyTypes;
 use std::alloc::Global;
 use text_core::{Items, Names, PassError};
 use type_check::TypedProgram;
@@ -28,7 +29,7 @@ pub fn lower(
     decls: Items<AdtDecl>,
     names: &Names,
 ) -> Result<Lowered, PassError>
-    requires fits { ProgramFits program.now }
+    requires fits { ProgramFits decls program.now }
     requires good { AllGood program.now }
     ensures lowered { IfOk result (IsLowered names.now decls program.now) }
     ensures few { IfOk result (λ l. HaveFewBlocks l.bodies) }
@@ -37,12 +38,13 @@ pub fn lower(
     let mut bodies = Items::new(alloc);
     let mut contracts = Items::new(alloc);
     let mut gone = Items::new(alloc);
+    let types = CopyTypes::of(alloc, decls.as_slice())?;
     let functions = program.functions.as_slice();
     for f in functions {
         let Ok(id) = u32::try_from(bodies.len()) else {
             return Err(PassError::NoMemory);
         };
-        let (body, own) = lower_function(alloc, names, functions, id, f)?;
+        let (body, own) = lower_function(alloc, names, functions, &types, id, f)?;
         bodies.push(body)?;
         contracts.push(contract_of(alloc, f)?)?;
         gone.push(own)?;

@@ -12,6 +12,8 @@ mod lowering;
 #[cfg(test)]
 mod printed;
 #[cfg(test)]
+mod struct_bodies;
+#[cfg(test)]
 mod tuple_bodies;
 #[cfg(test)]
 mod typing;

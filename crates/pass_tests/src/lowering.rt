@@ -17,7 +17,7 @@ const AN_ENDLESS_LOOP: &[u8] =
 
 const A_CALL: &[u8] = b"fn g(x: i32) -> bool { true } fn f(y: i32) { g(y); }";
 
-fn lowered(alloc: Global, source: &[u8]) -> Result<Lowered, Fail> {
+pub(crate) fn lowered(alloc: Global, source: &[u8]) -> Result<Lowered, Fail> {
     if source.len() > 1000 {
         return Err("too long".into());
     }

@@ -26,5 +26,6 @@ loop-span-preserved c =
       labels = c.in_ok-end_binding.ensures.labels ∙ c.loop-span.invariant.labels;
       locals = c.in_ok-end_binding.ensures.locals ∙ c.loop-span.invariant.locals;
       scope = sym (take-append-le n left (x ∷ []) within) ∙ ap (take n) (sym is) ∙ c.loop-span.invariant.scope;
+      types = c.loop-span.invariant.types;
       loops = c.loop-span.invariant.loops;
     }

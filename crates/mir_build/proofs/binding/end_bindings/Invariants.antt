@@ -9,6 +9,7 @@ invariant-loop-span l = record {
   labels : l.b.labels ≡ l.initial.b.labels;
   locals : length l.b.text.locals ≡ length l.initial.b.text.locals;
   scope : take l.before l.c.scope.items ≡ take l.before l.initial.c.scope.items;
+  types : l.c.types ≡ l.initial.c.types;
   loops : l.c.loops ≡ l.initial.c.loops;
 }
 

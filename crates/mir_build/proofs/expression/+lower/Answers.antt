@@ -10,7 +10,7 @@ use Rattle.mir_build.proofs.Scopes.{next_reaches}
 use Rattle.mir_build.proofs.TaskStack.{popped_text, popped_labels, popped_locals, popped_size, popped_reach, popped_good}
 use Rattle.mir_build.proofs.Runs.{running, args_at}
 use Rattle.mir_build.proofs.Bindings.{value_text}
-use Rattle.mir_build.proofs.Statements.{around_behind, text_on, labels_at, locals_at, text_end, within_on, front_on, loops_on}
+use Rattle.mir_build.proofs.Statements.{around_behind, text_on, labels_at, locals_at, text_end, within_on, front_on, types_on, loops_on}
 use Rattle.mir_build.proofs.expression.+lower.Goals.{lower_rest-then-statement+in_ok-push, lower_rest-else-statement, lower_rest-in-Unit+in_ok-put_unit-in-Unit, lower_rest-in-Value+in_ok-lower_into-in-Value, lower_rest-in-Leaves+in_ok-lower_new-in-Leaves}
 use Rattle.mir_build.proofs.expression.+lower.Goals as goal
 
@@ -65,8 +65,8 @@ lower_rest-loop-statement-preserved t c =
         true,
         w.if-statement.true,
         ap around w.c-is
-            ∙ ap (λ (xs : List Place). let r : Around = record { scope = xs; loops = c.lower_new.new.c.loops.items } in r) w.in_ok-push.ensures.items
-            ∙ ap (λ (p : Place). let r : Around = record { scope = c.lower_new.new.c.scope.items ++ p ∷ []; loops = c.lower_new.new.c.loops.items } in r) w.whole.ensures ∙ ap (λ (a : Around). binds a x) c.in_ok-t.ensures.around,
+            ∙ ap (λ (xs : List Place). let r : Around = record { types = c.lower_new.new.c.types.now; scope = xs; loops = c.lower_new.new.c.loops.items } in r) w.in_ok-push.ensures.items
+            ∙ ap (λ (p : Place). let r : Around = record { types = c.lower_new.new.c.types.now; scope = c.lower_new.new.c.scope.items ++ p ∷ []; loops = c.lower_new.new.c.loops.items } in r) w.whole.ensures ∙ ap (λ (a : Around). binds a x) c.in_ok-t.ensures.around,
       )
       | lower_rest-else-statement w ↦ (false, w.if-statement.false, ap around w.c-is ∙ c.in_ok-t.ensures.around)
     ] in
@@ -85,6 +85,7 @@ lower_rest-loop-statement-preserved t c =
       before = within_on b old x n known.before (around c.if-statement.c) which.2;
       reach = next_reaches ss i st end q h b e old (around c.if-statement.c) x which.2 known.reach;
       scope = front_on b old x n known.before (around c.if-statement.c) which.2 ∙ known.scope;
+      types = types_on b old x n known.before (around c.if-statement.c) which.2 ∙ known.types;
       loops = loops_on b old x n known.before (around c.if-statement.c) which.2 ∙ known.loops;
     }
 

@@ -116,5 +116,6 @@ invariant-lower_rest-loop-statement l =
       before : l.before ≤ length l.c.scope.items;
       reach : reach_of left ≤ length l.c.scope.items;
       scope : take l.before l.c.scope.items ≡ l.initial.c.scope.items;
+      types : l.c.types.now ≡ l.initial.c.types.now;
       loops : l.c.loops.items ≡ l.initial.c.loops.items;
     }

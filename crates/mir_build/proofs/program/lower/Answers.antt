@@ -29,7 +29,7 @@ lower_function-requires c =
     let f = c.f-item.result in
     let within : i < length fs = omega (arith, c.loop-f-test.true, ap length c.as_slice-functions.ensures) in
     let is : f ≡ get_or fs i f = cc in
-    record { scope = within_scope (surroundings_of (signatures fs) f.signature) f.signature.params f.body (fits_at (signatures fs) fs i f c.requires.fits is within).body; good = body_good f (good_at fs i f c.requires.good is within) }
+    record { scope = within_scope (surroundings_of c.args.decls (signatures fs) f.signature) f.signature.params f.body (fits_at c.args.decls (signatures fs) fs i f c.requires.fits is within).body; good = body_good f (good_at fs i f c.requires.good is within) }
 
 pub loop-f-preserved : goal.loop-f-preserved
 loop-f-preserved c =
@@ -42,10 +42,10 @@ loop-f-preserved c =
     let more : take (i + 1) fs ≡ take i fs ++ f ∷ [] = take_more fs i f within ∙ ap (λ x. take i fs ++ x ∷ []) (sym is) in
     record {
       lowered =
-          let fits = fits_at (signatures fs) fs i f c.requires.fits is within in
+          let fits = fits_at c.args.decls (signatures fs) fs i f c.requires.fits is within in
           let good = good_at fs i f c.requires.good is within in
           let lowers = (rw c.as_slice-functions.ensures at c.in_ok-body.ensures.lowered) fits in
-          let step = then_lower _ (signatures fs) 0 _ _ _ _ f c.in_ok-body.body (contract_of f) c.in_ok-body.own _ c.loop-f.invariant.lowered c.in_ok-body.ensures.named lowers (has_contract f (clauses_good f good)) number in
+          let step = then_lower _ c.args.decls (signatures fs) 0 _ _ _ _ f c.in_ok-body.body (contract_of f) c.in_ok-body.own _ c.loop-f.invariant.lowered c.in_ok-body.ensures.named lowers (has_contract f (clauses_good f good)) number in
           rw (more, c.in_ok-push.ensures.ok, c.in_ok-push-2.ensures.ok, c.in_ok-contract_of.ensures, c.in_ok-push-3.ensures.ok) step;
       few = rw c.in_ok-push.ensures.ok (All-push (λ (b : Body). length b.blocks ≤ 4096) c.loop-f.bodies c.in_ok-body.body c.loop-f.invariant.few c.in_ok-body.ensures.few);
     }
@@ -57,5 +57,5 @@ returns-in_err-body-clause-limit c =
     let f = c.f-item.result in
     let within : i < length fs = omega (arith, c.loop-f-test.true, ap length c.as_slice-functions.ensures) in
     let is : f ≡ get_or fs i f = cc in
-    let fails : FailsFor (HasMoreBlocks c.args.program.now 4096) c.in_err-body.field-0.0 = fails_for _ _ _ (λ more. too_many c.args.program.now i f is within more c.requires.fits c.requires.good) c.in_err-body.ensures.limit in
+    let fails : FailsFor (HasMoreBlocks c.args.program.now 4096) c.in_err-body.field-0.0 = fails_for _ _ _ (λ more. too_many c.args.decls c.args.program.now i f is within more c.requires.fits c.requires.good) c.in_err-body.ensures.limit in
     search (rules, fails)
