@@ -188,7 +188,11 @@ fn formula_spans(alloc: Global, assertions: &[Assertion]) -> Result<Items<Span>,
 }
 
 /// The head of a loop with these invariants, which speak of the variables in scope.
-pub(crate) fn head_of(alloc: Global, c: &Around<'_>, assertions: &[Assertion]) -> Result<Head, NoMemory>
+pub(crate) fn head_of(
+    alloc: Global,
+    c: &Around<'_>,
+    assertions: &[Assertion],
+) -> Result<Head, NoMemory>
     requires { bad_among assertions.now ≡ None }
     ensures { IfOk result (λ h. h ≡ head_of (around c.now) (map formula_of assertions.now)) }
 {

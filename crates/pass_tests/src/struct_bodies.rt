@@ -31,13 +31,21 @@ type Taken = (&'static [u8], bool, usize);
 
 /// A struct is moved, and copied where it derives `Copy`; so is a field, by its own type.
 const TAKEN: [Taken; 5] = [
-    (b"struct P { x: i32, y: bool } fn f(p: P) -> P { p }", true, 0),
+    (
+        b"struct P { x: i32, y: bool } fn f(p: P) -> P { p }",
+        true,
+        0,
+    ),
     (
         b"#[derive(Clone, Copy)] struct P { x: i32, y: bool } fn f(p: P) -> P { p }",
         false,
         0,
     ),
-    (b"struct P { x: i32, y: bool } fn f(p: P) -> i32 { p.x }", false, 1),
+    (
+        b"struct P { x: i32, y: bool } fn f(p: P) -> i32 { p.x }",
+        false,
+        1,
+    ),
     (
         b"struct Q { x: i32 } struct P { q: Q } fn f(p: P) -> i32 { p.q.x }",
         false,
