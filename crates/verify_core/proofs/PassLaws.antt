@@ -132,9 +132,9 @@ tables_are table ds typed l adts lowered is = ap with_types (is ∙ sym lowered.
 -- ---- bodies that can be walked
 
 module _ (table : List (List ℕ)) where
-  as_many : (σ : List Signature) (n : ℕ) (fs : List TypedFunction) (bs : List Body) (cs : List Contract) (gones : List Initialised) → EachLowersTo table σ n fs bs cs gones → (length cs ≡ length bs) × (length gones ≡ length bs)
-  as_many _ _ _ _ _ _ no_functions = (refl, refl)
-  as_many _ _ _ _ _ _ (and_function owner named lowers contract numbered rest) = let r = as_many _ _ _ _ _ _ rest in (ap suc r.0, ap suc r.1)
+  as_many : (ds : List AdtDecl) (σ : List Signature) (n : ℕ) (fs : List TypedFunction) (bs : List Body) (cs : List Contract) (gones : List Initialised) → EachLowersTo table ds σ n fs bs cs gones → (length cs ≡ length bs) × (length gones ≡ length bs)
+  as_many _ _ _ _ _ _ _ no_functions = (refl, refl)
+  as_many _ _ _ _ _ _ _ (and_function owner named lowers contract numbered rest) = let r = as_many _ _ _ _ _ _ _ rest in (ap suc r.0, ap suc r.1)
 
   known : (bs : Bodies) (cs : Contracts) (b : Body) (p : Place) (callee : Callee) (types : List Ty) (args : List Operand) (m : Label) (kind : TerminatorKind) → length cs.of ≡ length bs.bodies → EndIsTyped bs b kind → kind ≡ Call p callee types args m
       → ((d : Contract) × (contract_at cs callee ≡ Some d)) × ((t : Ty) × (slice_get b.locals p.local ≡ Some t))
@@ -146,7 +146,7 @@ module _ (table : List (List ℕ)) where
   pub walkable : (ds : List AdtDecl) (typed : TypedProgram) (l : Lowered) → IsLowered table ds typed l → ProgramFits ds typed → EachIsPlain typed.functions → CanWalkAll l
   walkable ds typed l lowered fits plain =
       let lowers : Lowers table ds typed.functions l.bodies l.contracts l.gone = record { lowers = lowered; fits = fits; plain = plain } in
-      let sizes = as_many (signatures typed.functions) 0 typed.functions l.bodies.bodies l.contracts.of l.gone lowered.each in
+      let sizes = as_many ds (signatures typed.functions) 0 typed.functions l.bodies.bodies l.contracts.of l.gone lowered.each in
       record {
         contracts = sizes.0;
         gone = sizes.1;
