@@ -44,7 +44,7 @@ loop-f-preserved c =
       lowered =
           let fits = fits_at c.args.decls (signatures fs) fs i f c.requires.fits is within in
           let good = good_at fs i f c.requires.good is within in
-          let lowers = (rw (c.as_slice-functions.ensures, c.in_ok-types.ensures) at c.in_ok-body.ensures.lowered) fits in
+          let lowers = (rw (c.as_slice-functions.ensures, c.in_ok-types.ensures, c.as_slice.ensures) at c.in_ok-body.ensures.lowered) fits in
           let step = then_lower _ c.args.decls (signatures fs) 0 _ _ _ _ f c.in_ok-body.body (contract_of f) c.in_ok-body.own _ c.loop-f.invariant.lowered c.in_ok-body.ensures.named lowers (has_contract f (clauses_good f good)) number in
           rw (more, c.in_ok-push.ensures.ok, c.in_ok-push-2.ensures.ok, c.in_ok-contract_of.ensures, c.in_ok-push-3.ensures.ok) step;
       few = rw c.in_ok-push.ensures.ok (All-push (λ (b : Body). length b.blocks ≤ 4096) c.loop-f.bodies c.in_ok-body.body c.loop-f.invariant.few c.in_ok-body.ensures.few);
