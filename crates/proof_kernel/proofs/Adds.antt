@@ -18,10 +18,11 @@ use Rattle.proof_kernel.specs.Rules.{label, same_label, hypothesis, sort_of, wit
 use Rattle.proof_kernel.specs.Linear.{Difference, row_of, row_back, row_if_found, referred, AreRows}
 use Rattle.proof_kernel.specs.Setting.{Setting}
 use Rattle.proof_kernel.specs.Steps.{labels_in, labels_of, new_names, IsLabelOf, IsVariableOf, AddsItsOwn}
-use Rattle.proof_kernel.specs.Derivation.{Gives, by_intro, by_hyp, by_split, by_lin, by_goal, by_hypothesis, by_two, by_rewriting, by_term, by_division, by_instance}
+use Rattle.proof_kernel.specs.Derivation.{Gives, by_intro, by_hyp, by_split, by_lin, by_goal, by_hypothesis, by_two, by_rewriting, by_term, by_division, by_instance, by_variants, by_induction}
 use Rattle.proof_kernel.proofs.Each.{Each, Has, each_and, each_of, each_map, contains_itself}
 use Rattle.proof_kernel.proofs.FormsAdd.{goal_has, hypothesis_has, pair_has, rewriting_has, term_has, division_has, instance_has, instance_there, hypothesis_there, pair_there, rewriting_there}
 use Rattle.proof_kernel.proofs.Taken.{takes_off_computed}
+use Rattle.proof_kernel.proofs.VariantsAdd.{variants_have, induction_has}
 
 row_found : (row : Term → Option Difference) (o : Option Term) (d : Difference) → row_if_found row o ≡ Some d → (t : Term) × (o ≡ Some t)
 row_found row None d e = absurd (cc)
@@ -71,6 +72,8 @@ module _ (P : Label2 → Type 0) (N : Name → Type 0) (s : ℕ) (own : (k : ℕ
   given_adds w q step ps (by_term {r = r} {t = t} e) new has = (tt, term_has P N s own q has ps r t e)
   given_adds w q step ps (by_division {t = t} {u = u} e) new has = (tt, division_has P N s own q has ps t u e)
   given_adds w q step ps (by_instance {l = l} {ts = ts} e) new has = ((instance_there s q ps l ts e, tt), instance_has P N s own q has ps l ts e)
+  given_adds w q step ps (by_variants {t = t} {names = names} fresh e) new has = (tt, variants_have P N s own q has ps names new w.tables.adts t e)
+  given_adds w q step ps (by_induction {x = x} {names = names} fresh free e) new has = (tt, induction_has P N s own q has ps names new w.tables.adts x e)
 
 -- ---- so what is added is the step's own
 

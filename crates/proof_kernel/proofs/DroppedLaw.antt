@@ -6,7 +6,7 @@ use Rattle.logic_term.specs.declared.kinds.Label2.{Label2}
 use Rattle.logic_term.specs.Free.{free}
 use Rattle.logic_term.specs.Term.{Term}
 use Rattle.proof_kernel.specs.declared.local_context.LocalEntry.{LocalEntry}
-use Rattle.proof_kernel.specs.declared.local_context.LocalEntry.TheVariants.{Variable, Hypothesis, Opened, Dropped}
+use Rattle.proof_kernel.specs.declared.local_context.LocalEntry.TheVariants.{Variable, Hypothesis, Opened, Dropped, Removed}
 use Rattle.proof_kernel.specs.Dropped.{is_dropped, free_but_in}
 use Rattle.proof_kernel.specs.LocalContext.{hypotheses_in, with_dropped}
 use Rattle.proof_kernel.specs.Opened.{opened_hypotheses}
@@ -54,6 +54,7 @@ free_but_one x m dropped (h ∷ hs) = at (free_but_one x m dropped hs) (same_lab
 free_at : (x : Name) (dropped : List Label2) (e : LocalEntry) (es : List LocalEntry)
     → free_but_in x dropped (hypotheses_in (e ∷ es)) ≡ (free_but_in x (with_dropped e dropped) (hypotheses_in es) || free_but_in x dropped (hypotheses_in (e ∷ [])))
 free_at x dropped (Variable y s) es = sym (or_false (free_but_in x dropped (hypotheses_in es)) false refl)
+free_at x dropped (Removed y) es = sym (or_false (free_but_in x dropped (hypotheses_in es)) false refl)
 free_at x dropped (Hypothesis l t) es = free_but_more x dropped (hypotheses_in es) ((l, t) ∷ [])
 free_at x dropped (Opened o) es = free_but_more x dropped (hypotheses_in es) (opened_hypotheses o.step o.names o.context)
 free_at x dropped (Dropped l) es = free_but_one x l dropped (hypotheses_in es) ∙ sym (or_false (free_but_in x (dropped ++ l ∷ []) (hypotheses_in es)) false refl)
@@ -83,6 +84,7 @@ without_not_free x m (g ∷ hs) h =
 
 not_free_at : (x : Name) (e : LocalEntry) (es : List LocalEntry) → free_in_hyps x (hypotheses_in (e ∷ [])) ≡ false → free_in_hyps x (hypotheses_in es) ≡ false → free_in_hyps x (hypotheses_in (e ∷ es)) ≡ false
 not_free_at x (Variable y s) es h g = g
+not_free_at x (Removed y) es h g = g
 not_free_at x (Hypothesis l t) es h g = free_more x (hypotheses_in es) ((l, t) ∷ []) ∙ or_false (free_in_hyps x (hypotheses_in es)) _ h ∙ g
 not_free_at x (Opened o) es h g = free_more x (hypotheses_in es) (opened_hypotheses o.step o.names o.context) ∙ or_false (free_in_hyps x (hypotheses_in es)) _ h ∙ g
 not_free_at x (Dropped l) es h g = without_not_free x l (hypotheses_in es) g

@@ -62,7 +62,7 @@ instance_there s q ps l ts e = at (hypothesis l q.hyps) e
 -- ---- what is added
 
 -- P is so of the labels
-abbrev Labels : (Label2 → Type 0) → List (Label2 × Term) → Type 0
+abbrev pub Labels : (Label2 → Type 0) → List (Label2 × Term) → Type 0
 Labels P hs = Each (λ (h : Label2 × Term). P h.0) hs
 
 without_each : (P : Label2 → Type 0) (l : Label2) (hs : List (Label2 × Term)) → Labels P hs → Labels P (without l hs)
@@ -74,14 +74,14 @@ without_each P l (h ∷ hs) e = kept (same_label l h.0) (without_each P l hs e.1
     kept false r = (e.0, r)
 
 module _ (P : Label2 → Type 0) (N : Name → Type 0) (s : ℕ) (own : (k : ℕ) → P (label s k)) (q : Sequent) (has : Has P N q) (ps : List Sequent) where
-  labels_own : (k : ℕ) (ts : List Term) → Labels P (labelled s k ts)
+  pub labels_own : (k : ℕ) (ts : List Term) → Labels P (labelled s k ts)
   labels_own k [] = tt
   labels_own k (t ∷ ts) = (own k, labels_own (suc k) ts)
 
-  more_has : (ts : List Term) → Has P N (with_hyps s q ts)
+  pub more_has : (ts : List Term) → Has P N (with_hyps s q ts)
   more_has ts = (each_and (λ (h : Label2 × Term). P h.0) q.hyps (labelled s 1 ts) has.0 (labels_own 1 ts), has.1)
 
-  these_have : (rs : List Sequent) → Some rs ≡ Some ps → Each (Has P N) rs → Each (Has P N) ps
+  pub these_have : (rs : List Sequent) → Some rs ≡ Some ps → Each (Has P N) rs → Each (Has P N) ps
   these_have rs e h = subst (Each (Has P N)) (same_some rs ps e) h
 
   closed_has : (b : Bool) → closed_if b ≡ Some ps → Each (Has P N) ps

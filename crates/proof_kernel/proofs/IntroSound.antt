@@ -50,16 +50,16 @@ last_named (q ∷ rs) r f z = last_named rs r (λ y. cond (y.0 == q.from.0) q.to
 
 -- ---- names among others
 
-either_false : (a b : Bool) → (a || b) ≡ false → (a ≡ false) × (b ≡ false)
+pub either_false : (a b : Bool) → (a || b) ≡ false → (a ≡ false) × (b ≡ false)
 either_false false b e = (refl, e)
 either_false true b e = absurd (true≢false e)
 
-not_both : (b : Bool) → b ≡ true → b ≡ false → ⊥
+pub not_both : (b : Bool) → b ≡ true → b ≡ false → ⊥
 not_both true e f = true≢false f
 not_both false e f = true≢false (sym e)
 
 -- what is so of each of the names is so of one that is among them
-among_new : (names : List Name) (q : Sequent) (z : Name) → AreNew names q → is_one_of z names ≡ true → IsNew z q
+pub among_new : (names : List Name) (q : Sequent) (z : Name) → AreNew names q → is_one_of z names ≡ true → IsNew z q
 among_new [] q z new e = absurd (true≢false (sym e))
 among_new (x ∷ xs) q z new e = by (z.0 == x.0) refl (λ h. among_new xs q z new.2 h)
   where
@@ -68,24 +68,24 @@ among_new (x ∷ xs) q z new e = by (z.0 == x.0) refl (λ h. among_new xs q z ne
     by false t later = later (sym (ap (λ b. b || is_one_of z xs) t) ∙ e)
 
 -- a name that no new one is, as what is so of it is so of no new one
-apart : (names : List Name) (z : Name) → (is_one_of z names ≡ true → ⊥) → is_one_of z names ≡ false
+pub apart : (names : List Name) (z : Name) → (is_one_of z names ≡ true → ⊥) → is_one_of z names ≡ false
 apart names z n = by (is_one_of z names) refl
   where
     by : (b : Bool) → is_one_of z names ≡ b → b ≡ false
     by true e = absurd (n e)
     by false e = refl
 
-abbrev AreApart : List Name → Type 0
+abbrev pub AreApart : List Name → Type 0
 AreApart [] = Unit {0}
 AreApart (x ∷ xs) = (is_one_of x xs ≡ false) × AreApart xs
 
-new_apart : (names : List Name) (q : Sequent) → AreNew names q → AreApart names
+pub new_apart : (names : List Name) (q : Sequent) → AreNew names q → AreApart names
 new_apart [] q new = tt
 new_apart (x ∷ xs) q new = (new.1, new_apart xs q new.2)
 
 module _ (S : Structure) where
   -- the environments differ at these names alone
-  abbrev Off : List Name → Env → Env → Type 0
+  abbrev pub Off : List Name → Env → Env → Type 0
   Off names ρ σ = (z : Name) → is_one_of z names ≡ false → σ z ≡ ρ z
 
   -- so it is, whatever the values of the names
@@ -111,7 +111,7 @@ module _ (S : Structure) where
       (yes_alike _ _ (renamed_means bound a σ)).1 ((yes_alike _ _ (coincide_free S a (λ z. ρ (name_in bound z)) (λ z. σ (name_in bound z)) (λ z e. sym (off (name_in bound z) (fresh z e))))).0 h)
 
   -- the environment with one value more, and others at names behind it
-  off_more : (x : Name) (xs : List Name) (ρ : Env) (w : Value) (σ : Env) → Off xs (with_value ρ x w) σ → Off (x ∷ xs) ρ σ
+  pub off_more : (x : Name) (xs : List Name) (ρ : Env) (w : Value) (σ : Env) → Off xs (with_value ρ x w) σ → Off (x ∷ xs) ρ σ
   off_more x xs ρ w σ off z e = let n = either_false (z.0 == x.0) (is_one_of z xs) e in off z n.1 ∙ ap (λ b. cond b w (ρ z)) n.0
 
   in_body : (x y z : Name) (xs : List Name) (bound : List Renaming) (ρ : Env) (w : Value) (b : Bool) → (b ≡ false → is_one_of (name_in bound z) (x ∷ xs) ≡ false)
@@ -154,7 +154,7 @@ module _ (S : Structure) where
 
   -- ---- at the start
 
-  sorts_off : (names : List Name) (vs : List (Name × Ty)) (ρ σ : Env) → ((z : Name) → is_one_of z names ≡ true → sort_of z vs ≡ None) → Off names ρ σ → InSorts S vs ρ → InSorts S vs σ
+  pub sorts_off : (names : List Name) (vs : List (Name × Ty)) (ρ σ : Env) → ((z : Name) → is_one_of z names ≡ true → sort_of z vs ≡ None) → Off names ρ σ → InSorts S vs ρ → InSorts S vs σ
   sorts_off names [] ρ σ new off h = tt
   sorts_off names (v ∷ vs) ρ σ new off h = (
     subst (λ u. HasSort (declared S.theory) u (instance S.types v.1)) (sym (off v.0 (apart names v.0 (λ e. at_itself v vs (new v.0 e))))) h.0,
@@ -178,7 +178,7 @@ module _ (S : Structure) where
           by true e = absurd (cc)
           by false e = e
 
-  hyps_off : (names : List Name) (hs : List (Label2 × Term)) (ρ σ : Env) → ((z : Name) → is_one_of z names ≡ true → free_in_hyps z hs ≡ false) → Off names ρ σ → AllHold S hs ρ → AllHold S hs σ
+  pub hyps_off : (names : List Name) (hs : List (Label2 × Term)) (ρ σ : Env) → ((z : Name) → is_one_of z names ≡ true → free_in_hyps z hs ≡ false) → Off names ρ σ → AllHold S hs ρ → AllHold S hs σ
   hyps_off names [] ρ σ new off h = tt
   hyps_off names (g ∷ hs) ρ σ new off h = (
     (yes_alike _ _ (coincide_free S g.1 ρ σ (λ z f. sym (off z (apart names z (λ e. not_both (free z g.1) f (either_false (free z g.1) (free_in_hyps z hs) (new z e)).0)))))).0 h.0,

@@ -1,5 +1,5 @@
 -- What the kernel finds and does, on lists.
-use Rattle.std.proofs.Common.{◌≡◌, ℕ, List, [], ◌∷◌, ◌++◌, ◌+◌, map, true, reverse, Option, Some, None, refl, sym, ◌∙◌, ap, subst}
+use Rattle.std.proofs.Common.{◌≡◌, ℕ, List, [], ◌∷◌, ◌++◌, ◌+◌, map, true, reverse, Option, Some, None, refl, sym, ◌∙◌, ap, subst, false}
 use Rattle.std.specs.Global.{Vec}
 use Rattle.text_core.specs.declared.name.Name.{Name}
 use Rattle.logic_term.specs.declared.kinds.Label2.{Label2}
@@ -8,13 +8,13 @@ use Rattle.logic_term.specs.Canonical.{SameUpToNames}
 use Rattle.proof_kernel.specs.declared.step.Multiple.{Multiple}
 use Rattle.proof_kernel.specs.Sequent.{Sequent}
 use Rattle.proof_kernel.specs.declared.step.Step.{Step}
-use Rattle.proof_kernel.specs.declared.step.Step.TheVariants.{Intro, Hyp, Split, Lin, OnGoal, OnHypothesis, OnTwo, Rewrite, OnTerm, Divide, Instantiate}
+use Rattle.proof_kernel.specs.declared.step.Step.TheVariants.{Intro, Hyp, Split, Lin, OnGoal, OnHypothesis, OnTwo, Rewrite, OnTerm, Divide, Instantiate, ByVariants, Induct}
 use Rattle.proof_kernel.specs.declared.kernel.Made.{Made}
 use Rattle.proof_kernel.specs.declared.kernel.Made.TheVariants.{Premises, TooWide, Nothing}
 use Rattle.proof_kernel.specs.Setting.{Setting}
 use Rattle.proof_kernel.specs.Progress.{Progress}
 use Rattle.proof_kernel.proofs.Once.{given}
-use Rattle.proof_kernel.specs.Derivation.{Gives, by_intro, by_hyp, by_split, by_lin, by_goal, by_hypothesis, by_two, by_rewriting, by_term, by_division, by_instance}
+use Rattle.proof_kernel.specs.Derivation.{Gives, by_intro, by_hyp, by_split, by_lin, by_goal, by_hypothesis, by_two, by_rewriting, by_term, by_division, by_instance, by_variants, by_induction}
 use Rattle.proof_kernel.specs.Linear.{Certifies}
 use Rattle.proof_kernel.specs.declared.step.GoalRule.{GoalRule}
 use Rattle.proof_kernel.specs.declared.step.HypothesisRule.{HypothesisRule}
@@ -28,7 +28,8 @@ use Rattle.proof_kernel.specs.PairRules.{pair_rule}
 use Rattle.proof_kernel.specs.RewriteRules.{rewrite_rule}
 use Rattle.proof_kernel.specs.TermRules.{term_rule, division_rule}
 use Rattle.proof_kernel.specs.Instances.{instance_rule}
-use Rattle.proof_kernel.specs.Rules.{Finds, hypothesis, with_goal, conjuncts, Intros, TakesSome}
+use Rattle.proof_kernel.specs.Rules.{Finds, hypothesis, with_goal, conjuncts, Intros, TakesSome, free_in_hyps}
+use Rattle.proof_kernel.specs.VariantRules.{AllNew, variants_rule, induction_rule}
 use Rattle.proof_kernel.specs.Kernel.{Applies, IsWide}
 use Rattle.proof_kernel.specs.Made.{IsMadeFirst, PassesWidthAt, others_of}
 
@@ -46,6 +47,8 @@ wide_at w q qs (Rewrite r) s p = absurd p
 wide_at w q qs (OnTerm r t) s p = absurd p
 wide_at w q qs (Divide t u) s p = absurd p
 wide_at w q qs (Instantiate l ts) s p = absurd p
+wide_at w q qs (ByVariants t names) s p = absurd p
+wide_at w q qs (Induct x names) s p = absurd p
 wide_at w q qs (Lin ms) s p = record { first = q; others = qs; multiples = ms; was = refl; is_lin = refl; passes = p }
 
 is_wide : (w : Setting) (left : List Sequent) (step : Step) (s : ℕ) → IsMadeFirst w s left step TooWide → IsWide (at w s left) step
@@ -154,3 +157,17 @@ module _ (w : Setting) (s : ℕ) (q : Sequent) (o : Option (Vec Sequent)) where
 
   pub no_instance : (l : Label2) (ts : List Pterm) → o ≡ None → Finds (instance_rule s q l ts) o → (ps : List Sequent) → Gives w s q (Instantiate l ts) ps → ⊥
   no_instance l ts e f ps g = none_is (instance_rule s q l ts) o ps e f (given w s q (Instantiate l ts) ps g)
+
+  -- ---- by variants
+
+  pub variants_given : (t : Pterm) (ns names : List (List Name)) (v : Vec Sequent) → ns ≡ names → AllNew ns q → o ≡ Some v → Finds (variants_rule w.tables.adts s q t ns) o → Gives w s q (ByVariants t names) v.items
+  variants_given t ns names v n new e f = subst (λ l. Gives w s q (ByVariants t l) v.items) n (by_variants new (found_is (variants_rule w.tables.adts s q t ns) o v e f))
+
+  pub no_variants : (t : Pterm) (ns names : List (List Name)) → ns ≡ names → o ≡ None → Finds (variants_rule w.tables.adts s q t ns) o → (ps : List Sequent) → Gives w s q (ByVariants t names) ps → ⊥
+  no_variants t ns names n e f ps g = none_is (variants_rule w.tables.adts s q t ns) o ps e f (given w s q (ByVariants t ns) ps (subst (λ l. Gives w s q (ByVariants t l) ps) (sym n) g)).1
+
+  pub induction_given : (x : Name) (ns names : List (List Name)) (v : Vec Sequent) → ns ≡ names → AllNew ns q × (free_in_hyps x q.hyps ≡ false) → o ≡ Some v → Finds (induction_rule w.tables.adts s q x ns) o → Gives w s q (Induct x names) v.items
+  induction_given x ns names v n new e f = subst (λ l. Gives w s q (Induct x l) v.items) n (by_induction new.0 new.1 (found_is (induction_rule w.tables.adts s q x ns) o v e f))
+
+  pub no_induction : (x : Name) (ns names : List (List Name)) → ns ≡ names → o ≡ None → Finds (induction_rule w.tables.adts s q x ns) o → (ps : List Sequent) → Gives w s q (Induct x names) ps → ⊥
+  no_induction x ns names n e f ps g = none_is (induction_rule w.tables.adts s q x ns) o ps e f (given w s q (Induct x ns) ps (subst (λ l. Gives w s q (Induct x l) ps) (sym n) g)).2

@@ -45,3 +45,7 @@ pub mod SortValue
 pub mod Sound
 pub mod Taken
 pub mod TermSound
+pub mod Types
+pub mod VariantSound
+pub mod VariantSteps
+pub mod VariantsAdd

@@ -8,11 +8,11 @@ use Rattle.logic_term.specs.Free.{free}
 use Rattle.logic_term.specs.Term.{Term}
 use Rattle.logic_term.specs.Ty.{Ty}
 use Rattle.proof_kernel.specs.declared.local_context.LocalEntry.{LocalEntry}
-use Rattle.proof_kernel.specs.declared.local_context.LocalEntry.TheVariants.{Variable, Hypothesis, Opened, Dropped}
+use Rattle.proof_kernel.specs.declared.local_context.LocalEntry.TheVariants.{Variable, Hypothesis, Opened, Dropped, Removed}
 use Rattle.logic_term.proofs.FreeLaw.{same_test}
-use Rattle.proof_kernel.specs.LocalContext.{variables_in, hypotheses_in, drops}
+use Rattle.proof_kernel.specs.LocalContext.{variables_in, hypotheses_in, drops, removes}
 use Rattle.proof_kernel.specs.Opened.{opened_hypotheses}
-use Rattle.proof_kernel.specs.Rules.{hypothesis, sort_of, free_in_hyps, same_label, without}
+use Rattle.proof_kernel.specs.Rules.{hypothesis, sort_of, free_in_hyps, same_label, without, without_variable}
 use Rattle.proof_kernel.proofs.Sound.{and_true}
 
 -- the first of both
@@ -38,18 +38,48 @@ sort_more : (x : Name) (vs ws : List (Name × Ty)) → sort_of x (vs ++ ws) ≡ 
 sort_more x [] ws = refl
 sort_more x (v ∷ vs) ws = by_head (x.0 == v.0.0) v.1 (sort_of x (vs ++ ws)) (sort_of x vs) (sort_of x ws) (sort_more x vs ws)
 
-pub sort_found : (x : Name) (e : LocalEntry) (es : List LocalEntry) (found : Option Ty)
-    → or_else (sort_of x (variables_in (e ∷ es))) found ≡ or_else (sort_of x (variables_in es)) (or_else (sort_of x (variables_in (e ∷ []))) found)
-sort_found x (Variable y s) es found =
-    ap (λ o. or_else o found) (sort_more x (variables_in es) ((y, s) ∷ [])) ∙ or_assoc (sort_of x (variables_in es)) (sort_of x ((y, s) ∷ [])) found
-sort_found x (Hypothesis l h) es found = refl
-sort_found x (Opened o) es found = refl
-sort_found x (Dropped l) es found = refl
+-- a variable that is taken out is not found
+removed_gone : (x : Name) (vs : List (Name × Ty)) → sort_of x (without_variable x vs) ≡ None
+removed_gone x [] = refl
+removed_gone x (v ∷ vs) = gone (removed_gone x vs) (x.0 == v.0.0) refl
+  where
+    gone : sort_of x (without_variable x vs) ≡ None → (b : Bool) → (x.0 == v.0.0) ≡ b → sort_of x (cond b (without_variable x vs) (v ∷ without_variable x vs)) ≡ None
+    gone rest true e = rest
+    gone rest false e = rw e rest
 
-pub sort_seen : (x : Name) (e : LocalEntry) (here es : List LocalEntry) (all found at : Option Ty) → here ≡ e ∷ es → at ≡ sort_of x (variables_in (e ∷ []))
+-- another one is
+other_variable_kept : (x y : Name) (vs : List (Name × Ty)) → (y.0 == x.0) ≡ false → sort_of x (without_variable y vs) ≡ sort_of x vs
+other_variable_kept x y [] d = refl
+other_variable_kept x y (v ∷ vs) d = kept (other_variable_kept x y vs d) (y.0 == v.0.0) refl
+  where
+    passed : (b : Bool) → (x.0 == v.0.0) ≡ b → (y.0 == v.0.0) ≡ true → (if b then Some v.1 else sort_of x vs) ≡ sort_of x vs
+    passed true e f = absurd (true≢false (sym f ∙ ap (λ n. y.0 == n) (sym (same_test x.0 v.0.0 e)) ∙ d))
+    passed false e f = refl
+
+    kept : sort_of x (without_variable y vs) ≡ sort_of x vs → (b : Bool) → (y.0 == v.0.0) ≡ b → sort_of x (cond b (without_variable y vs) (v ∷ without_variable y vs)) ≡ (if x.0 == v.0.0 then Some v.1 else sort_of x vs)
+    kept rest true e = rest ∙ sym (passed (x.0 == v.0.0) refl e)
+    kept rest false e = ap (λ o. if x.0 == v.0.0 then Some v.1 else o) rest
+
+pub sort_removed : (x : Name) (e : LocalEntry) (here es : List LocalEntry) (all found : Option Ty) → removes e x ≡ true → here ≡ e ∷ es → all ≡ or_else (sort_of x (variables_in here)) found → all ≡ found
+sort_removed x (Removed y) here es all found r is h =
+    let same : y ≡ x = ap (λ (n : ℕ). let name : Name = record { 0 = n } in name) (same_test y.0 x.0 r) in
+    let none : sort_of x (without_variable y (variables_in es)) ≡ None = ap (λ z. sort_of x (without_variable z (variables_in es))) same ∙ removed_gone x (variables_in es) in
+    h ∙ ap (λ hs. or_else (sort_of x (variables_in hs)) found) is ∙ ap (λ o. or_else o found) none
+sort_removed x e here es all found r is h = absurd (cc)
+
+pub sort_found : (x : Name) (e : LocalEntry) (es : List LocalEntry) (found : Option Ty) → removes e x ≡ false
+    → or_else (sort_of x (variables_in (e ∷ es))) found ≡ or_else (sort_of x (variables_in es)) (or_else (sort_of x (variables_in (e ∷ []))) found)
+sort_found x (Variable y s) es found d =
+    ap (λ o. or_else o found) (sort_more x (variables_in es) ((y, s) ∷ [])) ∙ or_assoc (sort_of x (variables_in es)) (sort_of x ((y, s) ∷ [])) found
+sort_found x (Hypothesis l h) es found d = refl
+sort_found x (Opened o) es found d = refl
+sort_found x (Dropped l) es found d = refl
+sort_found x (Removed y) es found d = ap (λ o. or_else o found) (other_variable_kept x y (variables_in es) d)
+
+pub sort_seen : (x : Name) (e : LocalEntry) (here es : List LocalEntry) (all found at : Option Ty) → removes e x ≡ false → here ≡ e ∷ es → at ≡ sort_of x (variables_in (e ∷ []))
     → all ≡ or_else (sort_of x (variables_in here)) found → all ≡ or_else (sort_of x (variables_in es)) (or_else at found)
-sort_seen x e here es all found at is here_is h =
-    h ∙ ap (λ hs. or_else (sort_of x (variables_in hs)) found) is ∙ sort_found x e es found ∙ ap (λ o. or_else (sort_of x (variables_in es)) (or_else o found)) (sym here_is)
+sort_seen x e here es all found at d is here_is h =
+    h ∙ ap (λ hs. or_else (sort_of x (variables_in hs)) found) is ∙ sort_found x e es found d ∙ ap (λ o. or_else (sort_of x (variables_in es)) (or_else o found)) (sym here_is)
 
 -- ---- hypotheses
 
@@ -89,6 +119,7 @@ other_kept l m (h ∷ hs) d = kept (other_kept l m hs d) (same_label m h.0) refl
 pub hypothesis_found : (l : Label2) (e : LocalEntry) (es : List LocalEntry) (found : Option Term) → drops e l ≡ false
     → or_else (hypothesis l (hypotheses_in (e ∷ es))) found ≡ or_else (hypothesis l (hypotheses_in es)) (or_else (hypothesis l (hypotheses_in (e ∷ []))) found)
 hypothesis_found l (Variable y s) es found d = refl
+hypothesis_found l (Removed y) es found d = refl
 hypothesis_found l (Dropped m) es found d = ap (λ o. or_else o found) (other_kept l m (hypotheses_in es) d)
 hypothesis_found l (Hypothesis m h) es found d =
     ap (λ o. or_else o found) (hypothesis_more l (hypotheses_in es) ((m, h) ∷ [])) ∙ or_assoc (hypothesis l (hypotheses_in es)) (hypothesis l ((m, h) ∷ [])) found

@@ -1,11 +1,11 @@
 -- What a step gives is one list of premises.
-use Rattle.std.proofs.Common.{◌≡◌, ℕ, ◌+◌, true, List, [], ◌∷◌, ◌++◌, map, Option, Some, refl, sym, ◌∙◌, ap, subst}
+use Rattle.std.proofs.Common.{◌≡◌, ℕ, ◌+◌, true, false, List, [], ◌∷◌, ◌++◌, map, Option, Some, refl, sym, ◌∙◌, ap, subst}
 use Rattle.text_core.specs.declared.name.Name.{Name}
 use Rattle.logic_term.specs.Term.{Term, is_conjunction}
 use Rattle.logic_term.specs.Canonical.{SameUpToNames}
 use Rattle.proof_kernel.specs.Sequent.{Sequent}
 use Rattle.proof_kernel.specs.declared.step.Step.{Step}
-use Rattle.proof_kernel.specs.declared.step.Step.TheVariants.{Intro, Hyp, Split, Lin, OnGoal, OnHypothesis, OnTwo, Rewrite, OnTerm, Divide, Instantiate}
+use Rattle.proof_kernel.specs.declared.step.Step.TheVariants.{Intro, Hyp, Split, Lin, OnGoal, OnHypothesis, OnTwo, Rewrite, OnTerm, Divide, Instantiate, ByVariants, Induct}
 use Rattle.proof_kernel.specs.declared.step.Multiple.{Multiple}
 use Rattle.proof_kernel.specs.Linear.{Difference, referred, AreRows, AreNarrow, Certifies, PassesWidth}
 use Rattle.proof_kernel.specs.GoalRules.{goal_rule}
@@ -14,10 +14,11 @@ use Rattle.proof_kernel.specs.PairRules.{pair_rule}
 use Rattle.proof_kernel.specs.RewriteRules.{rewrite_rule}
 use Rattle.proof_kernel.specs.TermRules.{term_rule, division_rule}
 use Rattle.proof_kernel.specs.Instances.{instance_rule}
-use Rattle.proof_kernel.specs.Rules.{hypothesis, with_goal, conjuncts, Intros, TakesSome}
+use Rattle.proof_kernel.specs.VariantRules.{AllNew, variants_rule, induction_rule}
+use Rattle.proof_kernel.specs.Rules.{hypothesis, free_in_hyps, with_goal, conjuncts, Intros, TakesSome}
 use Rattle.proof_kernel.specs.Setting.{Setting}
 use Rattle.proof_kernel.specs.Progress.{Progress}
-use Rattle.proof_kernel.specs.Derivation.{Gives, by_intro, by_hyp, by_split, by_lin, by_goal, by_hypothesis, by_two, by_rewriting, by_term, by_division, by_instance}
+use Rattle.proof_kernel.specs.Derivation.{Gives, by_intro, by_hyp, by_split, by_lin, by_goal, by_hypothesis, by_two, by_rewriting, by_term, by_division, by_instance, by_variants, by_induction}
 use Rattle.proof_kernel.specs.Kernel.{Applies, IsWide}
 use Rattle.proof_kernel.proofs.Taken.{takes_off_once}
 
@@ -34,6 +35,8 @@ Given w s q (Rewrite r) ps = rewrite_rule r s q ≡ Some ps
 Given w s q (OnTerm r t) ps = term_rule r s q t ≡ Some ps
 Given w s q (Divide t u) ps = division_rule s q t u ≡ Some ps
 Given w s q (Instantiate l ts) ps = instance_rule s q l ts ≡ Some ps
+Given w s q (ByVariants t names) ps = AllNew names q × (variants_rule w.tables.adts s q t names ≡ Some ps)
+Given w s q (Induct x names) ps = AllNew names q × (free_in_hyps x q.hyps ≡ false) × (induction_rule w.tables.adts s q x names ≡ Some ps)
 
 pub given : (w : Setting) (s : ℕ) (q : Sequent) (step : Step) (ps : List Sequent) → Gives w s q step ps → Given w s q step ps
 given w s q step ps (by_intro {r = r} some i) = (some, (r, i, refl))
@@ -47,6 +50,8 @@ given w s q step ps (by_rewriting e) = e
 given w s q step ps (by_term e) = e
 given w s q step ps (by_division e) = e
 given w s q step ps (by_instance e) = e
+given w s q step ps (by_variants new e) = (new, e)
+given w s q step ps (by_induction new free e) = (new, free, e)
 
 -- ---- each is one
 
@@ -68,6 +73,8 @@ once w s q (Rewrite r) ps rs g h = same_premises (rewrite_rule r s q) ps rs g h
 once w s q (OnTerm r t) ps rs g h = same_premises (term_rule r s q t) ps rs g h
 once w s q (Divide t u) ps rs g h = same_premises (division_rule s q t u) ps rs g h
 once w s q (Instantiate l ts) ps rs g h = same_premises (instance_rule s q l ts) ps rs g h
+once w s q (ByVariants t names) ps rs g h = same_premises (variants_rule w.tables.adts s q t names) ps rs g.1 h.1
+once w s q (Induct x names) ps rs g h = same_premises (induction_rule w.tables.adts s q x names) ps rs g.2 h.2
 
 pub gives_once : (w : Setting) (s : ℕ) (q : Sequent) (step : Step) (ps rs : List Sequent) → Gives w s q step ps → Gives w s q step rs → ps ≡ rs
 gives_once w s q step ps rs g h = once w s q step ps rs (given w s q step ps g) (given w s q step rs h)
@@ -114,6 +121,8 @@ given_is_narrow w s q (Rewrite r) ps ms e g p = absurd (cc)
 given_is_narrow w s q (OnTerm r t) ps ms e g p = absurd (cc)
 given_is_narrow w s q (Divide t u) ps ms e g p = absurd (cc)
 given_is_narrow w s q (Instantiate l ts) ps ms e g p = absurd (cc)
+given_is_narrow w s q (ByVariants t names) ps ms e g p = absurd (cc)
+given_is_narrow w s q (Induct x names) ps ms e g p = absurd (cc)
 given_is_narrow w s q (Lin ns) ps ms e g p = let same : ns ≡ ms = cc in closed_is_narrow q ms (subst (λ l. Certifies q l) same g.1) p
 
 pub wide_is_not_done : (before after : Progress) (step : Step) → IsWide before step → Applies before step after → ⊥

@@ -1,5 +1,5 @@
 -- The rules by terms are sound.
-use Rattle.std.proofs.Common.{◌≡◌, ℕ, true, List, [], ◌∷◌, Option, Some, None, refl, sym, ◌∙◌, ap, subst}
+use Rattle.std.proofs.Common.{◌≡◌, ℕ, ◌==◌, not, Bool, true, false, cond, List, [], ◌∷◌, Option, Some, None, refl, sym, ◌∙◌, ap, subst}
 use Rattle.std.specs.Option.{option_map}
 use Rattle.std.specs.Prelude.{ℤ, int_le, Result, Ok, Err}
 use Rattle.text_core.specs.declared.name.Name.{Name}
@@ -10,11 +10,13 @@ use Rattle.source_trees.specs.Pterm.{Pterm}
 use Rattle.logic_term.specs.Meaning.{Structure, Env, Means, Holds}
 use Rattle.logic_term.specs.Sort.{HasSort, instance}
 use Rattle.logic_term.specs.Sorted as sorts
-use Rattle.logic_term.specs.Term.{Term, lit, model}
-use Rattle.logic_term.specs.Theory.{declared}
-use Rattle.logic_term.specs.Ty.{Ty, int, math_int}
+use Rattle.logic_term.specs.Free.{free, free_in_some}
+use Rattle.logic_term.specs.Term.{Term, Terms, var, lit, truth, apply, bind, no_terms, and_term, model}
+use Rattle.logic_term.specs.Theory.{Theory, nothing_declared, declared}
+use Rattle.logic_term.specs.Ty.{Ty, Tys, int, bool, math_int}
 use Rattle.logic_term.specs.Value.{Value, Number, integer_of}
 use Rattle.logic_term.proofs.Alike.{alike_same}
+use Rattle.logic_term.proofs.FreeLaw.{same_name, same_test, or_cases}
 use Rattle.logic_term.proofs.SortLaw.{int_value}
 use Rattle.logic_term.proofs.SortParts.{parts}
 use Rattle.logic_term.proofs.SortSound.{sort_sound}
@@ -56,6 +58,43 @@ gives_sorts vars = record {
   variables = λ x a p. let e = symbols_sorted x (sort_of x vars) a p in subst (λ y. sort_of y vars ≡ Some a.sort) e.0 e.1;
   answer = λ a p. absurd (cc);
 }
+
+-- ---- free names
+
+none_behind : (b : Bool) (o p : Option Ty) → not b ≡ true → p ≡ None → cond b o p ≡ None
+none_behind true o p e n = absurd (cc)
+none_behind false o p e n = n
+
+mutual
+  -- the free names of a term have sorts
+  sorted_free : (Θ : Theory) (Γ : sorts.Scope) (t : Term) (s : Ty) (x : Name) → sorts.Sorted Θ Γ t s → free x t ≡ true → Γ x ≡ None → ⊥
+  sorted_free Θ Γ (var y) s x h f n =
+      let same : x ≡ y = same_name x y (same_test x.0 y.0 f) in
+      let there : Γ x ≡ Some s = subst (λ (z : Name). Γ z ≡ Some s) (sym same) h in
+      let no : None ≡ Some s = sym n ∙ there in
+      absurd (cc)
+  sorted_free Θ Γ (lit z r) s x h f n = absurd (cc)
+  sorted_free Θ Γ (truth b) s x h f n = absurd (cc)
+  sorted_free Θ Γ (apply op ts) s x h f n = all_sorted_free Θ Γ ts h.0 x h.2 f n
+  sorted_free Θ Γ (bind q y r t) s x h f n =
+      let p = and_true (not (x.0 == y.0)) (free x t) f in
+      sorted_free Θ (sorts.with_sort Γ y r) t bool x h.1 p.1 (none_behind (x.0 == y.0) (Some r) (Γ x) p.0 n)
+
+  all_sorted_free : (Θ : Theory) (Γ : sorts.Scope) (ts : Terms) (ss : Tys) (x : Name) → sorts.AllSorted Θ Γ ts ss → free_in_some x ts ≡ true → Γ x ≡ None → ⊥
+  all_sorted_free Θ Γ no_terms ss x h f n = absurd (cc)
+  all_sorted_free Θ Γ (and_term t ts) ss x h f n =
+      or_cases (free x t) (free_in_some x ts) f (λ e. sorted_free Θ Γ t h.0 x h.3 e n) (λ e. all_sorted_free Θ Γ ts h.1 x h.4 e n)
+
+-- the free names of a term at a sequent are its variables
+pub term_names_there : (q : Sequent) (t : Pterm) (a : SortedTerm) → term_at q t ≡ Some a → (x : Name) → free x a.term ≡ true → (r : Ty) × (sort_of x q.vars ≡ Some r)
+term_names_there q t a p x f = at (sort_of x q.vars) refl
+  where
+    is : sorts.Sorted nothing_declared (scope_of_sorts q.vars) a.term a.sort
+    is = terms_are_sorted nothing_declared (scope_of_sorts q.vars) (scope_of q.vars) (gives_sorts q.vars) t a (elaborates _ a p)
+
+    at : (o : Option Ty) → sort_of x q.vars ≡ o → (r : Ty) × (sort_of x q.vars ≡ Some r)
+    at None e = absurd (sorted_free nothing_declared (scope_of_sorts q.vars) a.term a.sort x is f e)
+    at (Some r) e = (r, e)
 
 module _ (S : Structure) (q : Sequent) (ρ : Env) (z : InSorts S q.vars ρ) where
   -- its value has its sort

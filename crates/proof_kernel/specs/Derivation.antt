@@ -1,5 +1,5 @@
 -- What each step makes of the first sequent in a setting, one case a kind of step, and proofs.
-use Rattle.std.specs.Prelude.{◌≡◌, ℕ, suc, true, List, [], ◌∷◌, ◌++◌, map, Some}
+use Rattle.std.specs.Prelude.{◌≡◌, ℕ, suc, true, false, List, [], ◌∷◌, ◌++◌, map, Some}
 use Rattle.text_core.specs.declared.name.Name.{Name}
 use Rattle.logic_term.specs.declared.kinds.Label2.{Label2}
 use Rattle.logic_term.specs.declared.obligation.Obligation.{Obligation}
@@ -15,7 +15,7 @@ use Rattle.proof_kernel.specs.declared.step.HypothesisRule.{HypothesisRule}
 use Rattle.proof_kernel.specs.declared.step.PairRule.{PairRule}
 use Rattle.proof_kernel.specs.declared.step.Rewriting.{Rewriting}
 use Rattle.proof_kernel.specs.declared.step.TermRule.{TermRule}
-use Rattle.proof_kernel.specs.declared.step.Step.TheVariants.{Intro, Hyp, Split, Lin, OnGoal, OnHypothesis, OnTwo, Rewrite, OnTerm, Divide, Instantiate}
+use Rattle.proof_kernel.specs.declared.step.Step.TheVariants.{Intro, Hyp, Split, Lin, OnGoal, OnHypothesis, OnTwo, Rewrite, OnTerm, Divide, Instantiate, ByVariants, Induct}
 use Rattle.proof_kernel.specs.Sequent.{sequent_of}
 use Rattle.proof_kernel.specs.Setting.{Setting, setting_of}
 use Rattle.proof_kernel.specs.Linear.{Certifies}
@@ -26,7 +26,8 @@ use Rattle.proof_kernel.specs.RewriteRules.{rewrite_rule}
 use Rattle.proof_kernel.specs.TermRules.{term_rule, division_rule}
 use Rattle.proof_kernel.specs.Instances.{instance_rule}
 use Rattle.source_trees.specs.Pterm.{Pterm}
-use Rattle.proof_kernel.specs.Rules.{hypothesis, with_goal, Intros, TakesSome, conjuncts}
+use Rattle.proof_kernel.specs.VariantRules.{AllNew, variants_rule, induction_rule}
+use Rattle.proof_kernel.specs.Rules.{hypothesis, free_in_hyps, with_goal, Intros, TakesSome, conjuncts}
 
 -- step number s makes these premises of the sequent
 pub data Gives (w : Setting) (s : ℕ) (q : Sequent) : Step → List Sequent → Type 0 where
@@ -41,6 +42,8 @@ pub data Gives (w : Setting) (s : ℕ) (q : Sequent) : Step → List Sequent →
   by_term : {r : TermRule} {t : Pterm} {ps : List Sequent} → term_rule r s q t ≡ Some ps → Gives w s q (OnTerm r t) ps
   by_division : {t u : Pterm} {ps : List Sequent} → division_rule s q t u ≡ Some ps → Gives w s q (Divide t u) ps
   by_instance : {l : Label2} {ts : List Pterm} {ps : List Sequent} → instance_rule s q l ts ≡ Some ps → Gives w s q (Instantiate l ts) ps
+  by_variants : {t : Pterm} {names : List (List Name)} {ps : List Sequent} → AllNew names q → variants_rule w.tables.adts s q t names ≡ Some ps → Gives w s q (ByVariants t names) ps
+  by_induction : {x : Name} {names : List (List Name)} {ps : List Sequent} → AllNew names q → free_in_hyps x q.hyps ≡ false → induction_rule w.tables.adts s q x names ≡ Some ps → Gives w s q (Induct x names) ps
 
 -- what the step cites besides hypotheses is true in the structure; no step cites anything else yet
 abbrev pub CitedAreTrue : Setting → Structure → Step → Type 0
@@ -55,6 +58,8 @@ CitedAreTrue w S (Rewrite r) = Unit {0}
 CitedAreTrue w S (OnTerm r t) = Unit {0}
 CitedAreTrue w S (Divide t u) = Unit {0}
 CitedAreTrue w S (Instantiate l ts) = Unit {0}
+CitedAreTrue w S (ByVariants t names) = Unit {0}
+CitedAreTrue w S (Induct x names) = Unit {0}
 
 -- the steps, numbered from s, lead from the first sequents to the second; each acts on the first and puts its premises there
 pub data Derives (w : Setting) : ℕ → List Sequent → List Step → List Sequent → Type 0 where

@@ -3,6 +3,7 @@ pub mod BackRule
 pub mod ConstructorRules
 pub mod Derivation
 pub mod Dropped
+pub mod ErasedBound
 pub mod ExchangeSteps
 pub mod Exchanged
 pub mod GoalRules
@@ -32,3 +33,5 @@ pub mod Setting
 pub mod SortTests
 pub mod Steps
 pub mod TermRules
+pub mod VariantCode
+pub mod VariantRules

@@ -49,6 +49,15 @@ abbrev pub without : Label2 → List (Label2 × Term) → List (Label2 × Term)
 without l [] = []
 without l (h ∷ hs) = if same_label l h.0 then without l hs else h ∷ without l hs
 
+-- the variables without those of the name
+abbrev pub without_variable : Name → List (Name × Ty) → List (Name × Ty)
+without_variable x [] = []
+without_variable x (v ∷ vs) = if x.0 == v.0.0 then without_variable x vs else v ∷ without_variable x vs
+
+-- the sequent without the variable
+abbrev pub removing : Name → Sequent → Sequent
+removing x q = record { vars = without_variable x q.vars; hyps = q.hyps; goal = q.goal }
+
 -- the terms are equal up to the names that they bind, as a truth value
 abbrev pub same_up_to_names : Term → Term → Bool
 same_up_to_names t u = same_term (canonical t) (canonical u)

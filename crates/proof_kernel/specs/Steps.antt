@@ -11,7 +11,7 @@ use Rattle.proof_kernel.specs.declared.step.Reference.TheVariants.{Goal, Hyp as 
 use Rattle.proof_kernel.specs.declared.step.Step.{Step}
 use Rattle.proof_kernel.specs.declared.step.Target.{Target}
 use Rattle.proof_kernel.specs.declared.step.Target.TheVariants as targets
-use Rattle.proof_kernel.specs.declared.step.Step.TheVariants.{Intro, Hyp, Split, Lin, OnGoal, OnHypothesis, OnTwo, Rewrite, OnTerm, Divide, Instantiate}
+use Rattle.proof_kernel.specs.declared.step.Step.TheVariants.{Intro, Hyp, Split, Lin, OnGoal, OnHypothesis, OnTwo, Rewrite, OnTerm, Divide, Instantiate, ByVariants, Induct}
 use Rattle.proof_kernel.specs.Rules.{hypothesis, sort_of}
 
 abbrev pub labels_in : Reference → List Label2
@@ -36,6 +36,8 @@ labels_of (Rewrite r) = r.equation ∷ label_of_target r.target
 labels_of (OnTerm r t) = []
 labels_of (Divide t u) = []
 labels_of (Instantiate l ts) = l ∷ []
+labels_of (ByVariants t names) = []
+labels_of (Induct x names) = []
 
 -- the names that the step gives to variables of its premises
 abbrev pub new_names : Step → List Name
@@ -50,6 +52,8 @@ new_names (Rewrite r) = []
 new_names (OnTerm r t) = []
 new_names (Divide t u) = []
 new_names (Instantiate l ts) = []
+new_names (ByVariants t names) = flat_map (λ xs. xs) names
+new_names (Induct x names) = flat_map (λ xs. xs) names
 
 -- ---- what is there, and what is added
 

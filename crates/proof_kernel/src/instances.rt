@@ -13,7 +13,7 @@ use source_trees::Pterm;
 use std::alloc::Global;
 use text_core::NoMemory;
 
-fn is_sort(s: &Sort, t: &Sort) -> bool
+pub(crate) fn is_sort(s: &Sort, t: &Sort) -> bool
     ensures { result ≡ same_ty s.now t.now }
 {
     s.same(t)

@@ -7,6 +7,8 @@ ghost use Rattle.proof_kernel.specs.Kernel.{Applies, CanBeDone, FitsNoRule, IsTo
 ghost use Rattle.proof_kernel.specs.Made.{IsMade, IsMadeFirst, others_of};
 ghost use Rattle.proof_kernel.specs.Setting.{setting};
 ghost use Rattle.proof_kernel.specs.Steps.{labels_in, labels_of};
+ghost use Rattle.proof_kernel.specs.Rules.{free_in_hyps};
+ghost use Rattle.proof_kernel.specs.VariantRules.{AllNew};
 
 use crate::goal_rules::goal_rule;
 use crate::hypothesis_rules::hypothesis_rule;
@@ -22,6 +24,7 @@ use crate::step::{
     GoalRule, HypothesisRule, Multiple, PairRule, Reference, Rewriting, Step, Target, TermRule,
 };
 use crate::term_rules::{division_rule, term_rule};
+use crate::variant_rules::{are_all_new, induction_rule, variants_rule};
 use logic_term::{Label2, Obligation};
 use source_trees::Pterm;
 use std::alloc::Global;
@@ -126,6 +129,7 @@ fn cites_in_order(number: u32, step: &Step) -> bool
         Step::Instantiate(label, _) => is_label_above(number, *label),
         Step::Intro(_) | Step::Split | Step::OnGoal(_) => true,
         Step::OnTerm(_, _) | Step::Divide(_, _) => true,
+        Step::ByVariants(_, _) | Step::Induct(_, _) => true,
     }
 }
 
@@ -312,6 +316,61 @@ fn by_instance(
     }
 }
 
+fn by_variants(
+    alloc: Global,
+    scope: &Scope<'_>,
+    number: u32,
+    t: &Pterm,
+    names: &Items<Items<Name>>,
+    q: &Sequent,
+) -> Result<Made, NoMemory>
+    ensures { IfOk result (λ made. IsMade (setting scope.now) number q.now (kinds.ByVariants t.now names.now) made) }
+{
+    if !are_all_new(alloc, names.as_slice(), q)? {
+        return Ok(Made::Nothing);
+    }
+    let adts = scope.tables.adts.as_slice();
+    match variants_rule(alloc, adts, number, t, names.as_slice(), q)? {
+        None => Ok(Made::Nothing),
+        Some(premises) => Ok(Made::Premises(premises)),
+    }
+}
+
+/// Whether the name is free in a hypothesis, or a name of the lists is not new.
+fn is_hindered(
+    alloc: Global,
+    name: Name,
+    names: &[Items<Name>],
+    q: &Sequent,
+) -> Result<bool, NoMemory>
+    ensures { IfOk result (λ b. (b ≡ false) ↔ (AllNew names.now q.now × (free_in_hyps name q.now.hyps ≡ false))) }
+{
+    if !are_all_new(alloc, names, q)? {
+        return Ok(true);
+    }
+    q.is_free_in_hypotheses(alloc, name)
+}
+
+fn by_induction(
+    alloc: Global,
+    scope: &Scope<'_>,
+    number: u32,
+    name: Name,
+    names: &Items<Items<Name>>,
+    q: &Sequent,
+) -> Result<Made, NoMemory>
+    ensures { IfOk result (λ made. IsMade (setting scope.now) number q.now (kinds.Induct name names.now) made) }
+{
+    if is_hindered(alloc, name, names.as_slice(), q)? {
+        return Ok(Made::Nothing);
+    }
+    let adts = scope.tables.adts.as_slice();
+    match induction_rule(alloc, adts, number, name, names.as_slice(), q)? {
+        None => Ok(Made::Nothing),
+        Some(premises) => Ok(Made::Premises(premises)),
+    }
+}
+
 /// What the step with this number makes of the sequent.
 fn made_of(
     alloc: Global,
@@ -336,6 +395,8 @@ fn made_of(
         Step::OnTerm(rule, t) => by_term(alloc, scope, number, *rule, t, q),
         Step::Divide(t, u) => by_division(alloc, scope, number, t, u, q),
         Step::Instantiate(label, ts) => by_instance(alloc, scope, number, *label, ts, q),
+        Step::ByVariants(t, names) => by_variants(alloc, scope, number, t, names, q),
+        Step::Induct(name, names) => by_induction(alloc, scope, number, *name, names, q),
     }
 }
 

@@ -3,6 +3,7 @@
 
 mod back_rule;
 mod constructor_rules;
+mod erasing;
 mod exchange;
 mod goal_rules;
 mod hypothesis_rules;
@@ -22,6 +23,7 @@ mod setting;
 mod sort_tests;
 mod step;
 mod term_rules;
+mod variant_rules;
 
 pub use kernel::{Kernel, StepError};
 pub use laws::{

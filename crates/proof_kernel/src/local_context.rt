@@ -6,7 +6,7 @@ ghost use Rattle.logic_term.specs.Canonical.{above_free};
 ghost use Rattle.proof_kernel.specs.Rules.{hypothesis, sort_of, free_in_hyps};
 ghost use Rattle.logic_term.specs.Free.{free};
 ghost use Rattle.proof_kernel.specs.Dropped.{free_but_in};
-ghost use Rattle.proof_kernel.specs.LocalContext.{variables_in, hypotheses_in, drops, with_dropped};
+ghost use Rattle.proof_kernel.specs.LocalContext.{variables_in, hypotheses_in, drops, removes, with_dropped};
 
 use crate::opened::{Opened, is_dropped};
 use logic_term::{Label2, Sort, Term};
@@ -16,13 +16,14 @@ use std::rc::Rc;
 use text_core::{Name, NoMemory};
 
 /// A variable with its sort, a hypothesis with its label, the hypotheses of a context that was taken off under names, or that the earlier
-/// hypothesis of the label is forgotten.
+/// hypothesis of the label is forgotten, or the earlier variables of the name.
 #[derive(Drop)]
 pub(crate) enum LocalEntry {
     Variable(Name, Sort),
     Hypothesis(Label2, Term),
     Opened(Opened),
     Dropped(Label2),
+    Removed(Name),
 }
 
 /// The variables and the hypotheses of a sequent, shared with the premises that have them too. Contracts see the list of the entries,
@@ -106,7 +107,17 @@ fn hypothesis_at(alloc: Global, entry: &LocalEntry, label: Label2) -> Result<Opt
             shared_if(alloc, same, hyp)
         }
         LocalEntry::Opened(opened) => opened.hypothesis(alloc, label),
-        LocalEntry::Dropped(_) => Ok(None),
+        LocalEntry::Dropped(_) | LocalEntry::Removed(_) => Ok(None),
+    }
+}
+
+/// Whether the entry takes out the variables of the name.
+fn removes(entry: &LocalEntry, name: Name) -> bool
+    ensures { result ≡ removes entry.now name }
+{
+    match entry {
+        LocalEntry::Removed(other) => other.0 == name.0,
+        _ => false,
     }
 }
 
@@ -146,7 +157,7 @@ fn is_free_at(
     ensures { IfOk result (λ b. b ≡ free_but_in name dropped.now (hypotheses_in (entry.now ∷ []))) }
 {
     match entry {
-        LocalEntry::Variable(_, _) | LocalEntry::Dropped(_) => Ok(false),
+        LocalEntry::Variable(_, _) | LocalEntry::Dropped(_) | LocalEntry::Removed(_) => Ok(false),
         LocalEntry::Hypothesis(label, hyp) => {
             is_free_unless(alloc, is_dropped(*label, dropped), hyp, name)
         }
@@ -174,7 +185,7 @@ fn above_entry(alloc: Global, entry: &LocalEntry, most: u64) -> Result<u64, NoMe
         LocalEntry::Variable(_, _) => Ok(most),
         LocalEntry::Hypothesis(_, hyp) => Ok(most.max(hyp.above_free(alloc)?)),
         LocalEntry::Opened(opened) => opened.above(alloc, most),
-        LocalEntry::Dropped(_) => Ok(most),
+        LocalEntry::Dropped(_) | LocalEntry::Removed(_) => Ok(most),
     }
 }
 
@@ -227,6 +238,9 @@ impl LocalContext {
         let mut here = self;
         let mut found = None;
         while let Some((entry, before)) = here.last() {
+            if removes(entry, name) {
+                return found;
+            }
             if let Some(sort) = sort_at(entry, name) {
                 found = Some(sort);
             }

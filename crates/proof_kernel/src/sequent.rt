@@ -2,7 +2,7 @@ ghost use Rattle.std.specs.Prelude.{◌≡◌, ◌↔◌, ◌++◌, ◌∷◌, [
 ghost use Rattle.std.specs.Option.{option_copied};
 ghost use Rattle.logic_term.specs.Context.{IsOpened};
 ghost use Rattle.logic_term.specs.Free.{free};
-ghost use Rattle.proof_kernel.specs.Rules.{hypothesis, sort_of, free_in_hyps, with_goal, dropping};
+ghost use Rattle.proof_kernel.specs.Rules.{hypothesis, sort_of, free_in_hyps, with_goal, dropping, removing};
 ghost use Rattle.proof_kernel.specs.Intro.{assuming, declaring, IsAbove};
 ghost use Rattle.proof_kernel.specs.Opened.{assuming_opened};
 ghost use Rattle.proof_kernel.specs.SequentGoalView.{goal_of};
@@ -137,6 +137,16 @@ impl Sequent {
         Ok(Sequent { context, goal })
     }
 
+    /// The sequent without the variable.
+    pub(crate) fn removing(&self, alloc: Global, name: Name) -> Result<Sequent, NoMemory>
+        ensures { IfOk result (λ q. q ≡ removing name self.now) }
+    {
+        let context = self.context.share()?;
+        let context = context.and(alloc, LocalEntry::Removed(name))?;
+        let goal = self.goal.share()?;
+        Ok(Sequent { context, goal })
+    }
+
     pub fn goal(&self, alloc: Global) -> Result<Term, NoMemory>
         ensures { IfOk result (λ t. t ≡ self.now.goal) }
     {
@@ -179,6 +189,13 @@ impl Sequent {
         let least = goal.above_free(alloc)?;
         let all = self.context.above(alloc, least)?;
         Ok(all)
+    }
+
+    /// Whether the name is free in a hypothesis.
+    pub(crate) fn is_free_in_hypotheses(&self, alloc: Global, name: Name) -> Result<bool, NoMemory>
+        ensures { IfOk result (λ b. b ≡ free_in_hyps name self.now.hyps) }
+    {
+        self.context.is_free(alloc, name)
     }
 
     /// Whether the name is free in no hypothesis and not in the goal.

@@ -132,4 +132,8 @@ pub enum Step {
     Divide(Pterm, Pterm),
     /// Terms for the names that the hypothesis is quantified over.
     Instantiate(Label2, Items<Pterm>),
+    /// The term by the variants of its enum, with names for the fields of each.
+    ByVariants(Pterm, Items<Items<Name>>),
+    /// Induction over a variable of an enum, with names for the fields of each variant.
+    Induct(Name, Items<Items<Name>>),
 }
