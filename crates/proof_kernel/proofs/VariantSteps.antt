@@ -1,6 +1,6 @@
 -- What is left while the code goes through variants and their fields.
 use Rattle.std.proofs.Common.{◌≡◌, ◌≢◌, ℕ, suc, ◌+◌, ◌<◌, ◌≤◌, ◌==◌, Bool, true, false, cond, List, [], ◌∷◌, ◌++◌, length, get_or, drop, drop-cons, add-one, append_assoc, append-nil, map, Option, Some, None, refl, sym, ◌∙◌, ap, ap₂, eq-eqb, eqb-true, arith, subst}
-use Rattle.std.specs.Prelude.{zip, ◌↔◌}
+use Rattle.std.specs.Prelude.{zip, ◌↔◌, Result, IfOk}
 use Rattle.std.specs.Option.{option_map}
 use Rattle.std.proofs.lemmas.List.{drop_all}
 use Rattle.text_core.specs.declared.name.Name.{Name}
@@ -8,14 +8,18 @@ use Rattle.logic_term.specs.declared.declaration.AdtDecl.{AdtDecl}
 use Rattle.logic_term.specs.declared.declaration.VariantDecl.{VariantDecl}
 use Rattle.logic_term.specs.declared.kinds.TyUnary.{TyUnary}
 use Rattle.logic_term.specs.declared.kinds.TyUnary.TheVariants as unary
-use Rattle.logic_term.specs.Term.{Term, var}
+use Rattle.text_core.specs.declared.fault.NoMemory.{NoMemory}
+use Rattle.logic_term.specs.declared.kinds.AdtId.{AdtId}
+use Rattle.logic_term.specs.Erased.{erased}
+use Rattle.logic_term.specs.Normal.{reduced}
+use Rattle.logic_term.specs.Term.{Term, var, is_equal}
 use Rattle.logic_term.specs.Ty.{Ty, Tys}
 use Rattle.logic_term.specs.TyView.{made_by}
 use Rattle.logic_elab.specs.Sorts.{same_ty}
 use Rattle.proof_kernel.specs.Sequent.{Sequent}
 use Rattle.proof_kernel.specs.Intro.{declaring}
-use Rattle.proof_kernel.specs.Rules.{AreNew}
-use Rattle.proof_kernel.specs.VariantRules.{enum_of, Case, case_of, cases_in, at_term, at_each, with_variables, AllNew}
+use Rattle.proof_kernel.specs.Rules.{AreNew, removing, with_goal, with_hyps}
+use Rattle.proof_kernel.specs.VariantRules.{enum_of, Case, case_of, cases_in, By, analysis, induction, variant_term, premise_of, at_term, at_each, with_variables, AllNew}
 
 pub made_is_no_enum : (adts : List AdtDecl) (op : TyUnary) (t : Ty) → enum_of adts (made_by op t) ≡ None
 made_is_no_enum adts unary.Boxed t = refl
@@ -49,6 +53,21 @@ pub all_variables : (xs : List Name) (ss : List Ty) (i : ℕ) (q whole : Sequent
 all_variables xs ss i q whole l h =
     sym (ap (λ vs. with_variables q vs) (no_pairs xs ss i l) ∙ ap (λ vs. record { vars = vs; hyps = q.hyps; goal = q.goal }) (append-nil q.vars)) ∙ h
 
+-- ---- premises
+
+pub analysed_is : (by : By) (t v : Term) (s k : ℕ) (q : Sequent) (d : AdtId) (xs : List Name) (ss : List Ty) (r : Result Sequent NoMemory) → by ≡ analysis t → v ≡ variant_term d k xs
+    → IfOk r (λ p. p ≡ with_hyps s (with_variables q (zip xs ss)) (reduced (is_equal t v) ∷ [])) → IfOk r (λ p. p ≡ premise_of by s q d (record { number = k; names = xs; sorts = ss }))
+analysed_is by t v s k q d xs ss r e f h =
+    subst (λ (b : By). IfOk r (λ p. p ≡ premise_of b s q d (record { number = k; names = xs; sorts = ss }))) (sym e)
+    (subst (λ (u : Term). IfOk r (λ p. p ≡ with_hyps s (with_variables q (zip xs ss)) (reduced (is_equal t u) ∷ []))) f h)
+
+pub inducted_is : (by : By) (x : Name) (o : Ty) (v : Term) (s k : ℕ) (q : Sequent) (d : AdtId) (xs : List Name) (ss : List Ty) (r : Result Sequent NoMemory) → by ≡ induction x o → v ≡ variant_term d k xs
+    → IfOk r (λ p. p ≡ with_goal (with_hyps s (with_variables (removing x q) (zip xs ss)) (at_each (erased o) x q.goal (zip xs ss))) (at_term x v q.goal))
+    → IfOk r (λ p. p ≡ premise_of by s q d (record { number = k; names = xs; sorts = ss }))
+inducted_is by x o v s k q d xs ss r e f h =
+    subst (λ (b : By). IfOk r (λ p. p ≡ premise_of b s q d (record { number = k; names = xs; sorts = ss }))) (sym e)
+    (subst (λ (u : Term). IfOk r (λ p. p ≡ with_goal (with_hyps s (with_variables (removing x q) (zip xs ss)) (at_each (erased o) x q.goal (zip xs ss))) (at_term x u q.goal))) f h)
+
 -- ---- induction hypotheses
 
 module _ (r : Ty) (y : Name) (t : Term) (xs : List Name) (ss : List Ty) (i : ℕ) (x d : Name) (s e : Ty) (us whole : List Term) (l : i < length xs) (many : length xs ≡ length ss) (first : x ≡ get_or xs i d) (second : s ≡ get_or ss i e) where
@@ -58,12 +77,13 @@ module _ (r : Ty) (y : Name) (t : Term) (xs : List Name) (ss : List Ty) (i : ℕ
   opened : us ++ at_each r y t (zip (drop i xs) (drop i ss)) ≡ whole → us ++ cond (same_ty s r) (at_term y (var x) t ∷ rest) rest ≡ whole
   opened h = ap (λ vs. us ++ at_each r y t vs) (sym (left_pair xs ss i x d s e l many first second)) ∙ h
 
-  pub one_more : (more : List Term) (u : Term) → same_ty s r ≡ true → u ≡ at_term y (var x) t → more ≡ us ++ u ∷ [] → us ++ at_each r y t (zip (drop i xs) (drop i ss)) ≡ whole → more ++ rest ≡ whole
-  one_more more u c is made h =
-      ap (λ ws. ws ++ rest) (made ∙ ap (λ w. us ++ w ∷ []) is) ∙ append_assoc us (at_term y (var x) t ∷ []) rest ∙ ap (λ b. us ++ cond b (at_term y (var x) t ∷ rest) rest) (sym c) ∙ opened h
-
-  pub passed : same_ty s r ≡ false → us ++ at_each r y t (zip (drop i xs) (drop i ss)) ≡ whole → us ++ rest ≡ whole
-  passed c h = ap (λ b. us ++ cond b (at_term y (var x) t ∷ rest) rest) (sym c) ∙ opened h
+  -- what is added for one
+  pub one_each : (more : List Term) → more ≡ us ++ at_each r y t ((x, s) ∷ []) → us ++ at_each r y t (zip (drop i xs) (drop i ss)) ≡ whole → more ++ rest ≡ whole
+  one_each more made h = ap (λ ws. ws ++ rest) made ∙ at (same_ty s r) ∙ opened h
+    where
+      at : (b : Bool) → (us ++ cond b (at_term y (var x) t ∷ []) []) ++ rest ≡ us ++ cond b (at_term y (var x) t ∷ rest) rest
+      at true = append_assoc us (at_term y (var x) t ∷ []) rest
+      at false = ap (λ ws. ws ++ rest) (append-nil us)
 
 pub all_of_them : (r : Ty) (y : Name) (t : Term) (xs : List Name) (ss : List Ty) (i : ℕ) (us whole : List Term) → length xs ≤ i → us ++ at_each r y t (zip (drop i xs) (drop i ss)) ≡ whole → us ≡ whole
 all_of_them r y t xs ss i us whole l h = sym (append-nil us) ∙ ap (λ vs. us ++ at_each r y t vs) (sym (no_pairs xs ss i l)) ∙ h

@@ -65,9 +65,12 @@ cases_in θ k vs names = None
 abbrev pub field_variables : Case → List (Name × Ty)
 field_variables c = zip c.names c.sorts
 
--- the value of the case
+-- the value of the variant of this number, with the names for its fields
+abbrev pub variant_term : AdtId → ℕ → List Name → Term
+variant_term d k xs = apply (made (Variant d k)) (terms_of (map var xs))
+
 abbrev pub case_term : AdtId → Case → Term
-case_term d c = apply (made (Variant d c.number)) (terms_of (map var c.names))
+case_term d c = variant_term d c.number c.names
 
 -- the names of each list are new in the sequent
 abbrev pub AllNew : List (List Name) → Sequent → Type 0

@@ -1,14 +1,13 @@
 //! The rules by the variants of an enum: case analysis and induction.
-ghost use Rattle.std.specs.Prelude.{◌≡◌, ◌≢◌, ◌↔◌, ◌∷◌, [], List, None, Some, IfOk, IsTrue, MatchOption, length, map, zip};
+ghost use Rattle.std.specs.Prelude.{◌≡◌, ◌≢◌, ◌↔◌, ◌∷◌, ◌++◌, [], None, Some, IfOk, OnOk, IsTrue, MatchOption, length, map, zip};
 ghost use Rattle.std.specs.Option.{option_map};
 ghost use Rattle.logic_term.specs.Erased.{erased};
 ghost use Rattle.logic_term.specs.Normal.{reduced};
 ghost use Rattle.logic_term.specs.Term.{is_equal};
-ghost use Rattle.logic_term.specs.Ty.{Ty as Tree};
 ghost use Rattle.logic_term.specs.TyView.{compound_of, tys_of};
 ghost use Rattle.proof_kernel.specs.Rules.{Finds, removing, with_goal, with_hyps};
 ghost use Rattle.proof_kernel.specs.VariantCode.{by_of, enum_with};
-ghost use Rattle.proof_kernel.specs.VariantRules.{AllNew, at_each, at_term, case_of, case_term, cases_in, enum_of, field_sort, in_variants, induction_rule, premise_of, variants_rule, with_variables};
+ghost use Rattle.proof_kernel.specs.VariantRules.{AllNew, at_each, at_term, case_of, variant_term, cases_in, enum_of, field_sort, in_variants, induction_rule, premise_of, variants_rule, with_variables};
 
 use crate::erasing::erased;
 use crate::instances::is_sort;
@@ -87,7 +86,7 @@ enum Through<'a> {
 
 /// The value of the variant of this number, with the names for its fields.
 fn variant_term(alloc: Global, adt: AdtId, number: u32, names: &[Name]) -> Result<Term, NoMemory>
-    ensures { IfOk result (λ t. (sorts : List Tree) → t ≡ case_term adt (record { number = number; names = names.now; sorts = sorts })) }
+    ensures { IfOk result (λ t. t ≡ variant_term adt number names.now) }
 {
     let mut parts = Vec::with_capacity(alloc, names.len())?;
     for i in 0..names.len() {
@@ -122,6 +121,25 @@ fn at_term(alloc: Global, name: Name, by: Term, t: &Term) -> Result<Term, NoMemo
     reduce(alloc, &t)
 }
 
+/// Adds the formula at the name, if its sort is this.
+fn add_at(
+    alloc: Global,
+    sort: &Sort,
+    name: Name,
+    t: &Term,
+    field: Name,
+    field_sort: &Sort,
+    all: &mut Vec<Term>,
+) -> Result<(), NoMemory>
+    ensures { OnOk result (all.new.items ≡ all.old.items ++ at_each sort.now name t.now ((field, field_sort.now) ∷ [])) }
+{
+    if is_sort(field_sort, sort) {
+        let field = Term::var(alloc, field)?;
+        all.push(at_term(alloc, name, field, t)?)?;
+    }
+    Ok(())
+}
+
 /// The formula at each of the names whose sort is this.
 fn at_each(
     alloc: Global,
@@ -136,10 +154,7 @@ fn at_each(
 {
     let mut all = Vec::new(alloc);
     for i in 0..names.len() {
-        if is_sort(&sorts[i], sort) {
-            let field = Term::var(alloc, names[i])?;
-            all.push(at_term(alloc, name, field, t)?)?;
-        }
+        add_at(alloc, sort, name, t, names[i], &sorts[i], &mut all)?;
     }
     Ok(all)
 }
