@@ -31,7 +31,12 @@ fn is_new(alloc: Global, name: Name, q: &Sequent, above: u64) -> Result<bool, No
 }
 
 /// Whether the names are new in the sequent, and no two are one.
-pub(crate) fn are_new(alloc: Global, names: &[Name], q: &Sequent, above: u64) -> Result<bool, NoMemory>
+pub(crate) fn are_new(
+    alloc: Global,
+    names: &[Name],
+    q: &Sequent,
+    above: u64,
+) -> Result<bool, NoMemory>
     requires { IsAbove above q.now }
     ensures { IfOk result (λ b. IsTrue b ↔ AreNew names.now q.now) }
 {

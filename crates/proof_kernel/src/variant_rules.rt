@@ -49,10 +49,7 @@ fn enum_at<'a>(
     }
 }
 
-fn enum_of<'a>(
-    adts: &'a [AdtDecl],
-    sort: &'a Sort,
-) -> Option<(AdtId, &'a [Ty], &'a [VariantDecl])>
+fn enum_of<'a>(adts: &'a [AdtDecl], sort: &'a Sort) -> Option<(AdtId, &'a [Ty], &'a [VariantDecl])>
     ensures { MatchOption result (enum_of adts.now sort.now ≡ None) (λ e. enum_of adts.now sort.now ≡ Some (enum_with e.0 e.1.now e.2.now)) }
 {
     match &sort.node {
@@ -263,7 +260,16 @@ fn case(
     }
     let number = u32::try_from(number).map_err(|_| NoMemory)?;
     let sorts = field_sorts(alloc, arguments, fields)?;
-    let premise = premise(alloc, through, step, q, adt, number, names, sorts.as_slice())?;
+    let premise = premise(
+        alloc,
+        through,
+        step,
+        q,
+        adt,
+        number,
+        names,
+        sorts.as_slice(),
+    )?;
     Ok(Some(premise))
 }
 
@@ -366,6 +372,14 @@ pub(crate) fn induction_rule(
 {
     match q.sort_of(name) {
         None => Ok(None),
-        Some(sort) => in_variants(alloc, adts, Through::Induction(name, sort), step, q, sort, names),
+        Some(sort) => in_variants(
+            alloc,
+            adts,
+            Through::Induction(name, sort),
+            step,
+            q,
+            sort,
+            names,
+        ),
     }
 }

@@ -15,7 +15,7 @@ use Rattle.proof_text.specs.declared.rule_words.TermLine.{TermLine}
 use Rattle.proof_text.specs.declared.rule_words.TermLine.TheVariants.{Rule, Division, Instance}
 use Rattle.proof_kernel.specs.declared.step.TermRule.TheVariants.{Cut, On, Range}
 use Rattle.proof_kernel.specs.declared.step.Step.{Step}
-use Rattle.proof_kernel.specs.declared.step.Step.TheVariants.{Intro, Hyp, Split, Lin, OnGoal, OnHypothesis, OnTwo, Rewrite, OnTerm, Divide, Instantiate}
+use Rattle.proof_kernel.specs.declared.step.Step.TheVariants.{Intro, Hyp, Split, Lin, OnGoal, OnHypothesis, OnTwo, Rewrite, OnTerm, Divide, Instantiate, ByVariants, Induct}
 use Rattle.proof_text.specs.declared.fault.Fault.{Fault}
 use Rattle.proof_text.specs.declared.fault.Fault.TheVariants.{Bad}
 use Rattle.proof_text.specs.ProofTextWords.{◌>>=◌}
@@ -141,6 +141,8 @@ rule_part (Rewrite rewriting) = None
 rule_part (OnTerm rule t) = None
 rule_part (Divide t u) = None
 rule_part (Instantiate label ts) = None
+rule_part (ByVariants t names) = None
+rule_part (Induct x names) = None
 rule_part rule = Some rule
 
 pub rule_read : (table : List (List ℕ)) (rest : Option (List ℕ)) (s : Step) → SpellsRest table rest s → rule_step_of (word_of s) rest ≡ rule_part s

@@ -8,7 +8,7 @@ use Rattle.std.proofs.lemmas.Slice.Eq.{bytes_eq-Decides}
 use Rattle.proof_kernel.specs.declared.step.Step.{Step}
 use Rattle.proof_kernel.specs.declared.step.TermRule.{TermRule}
 use Rattle.proof_kernel.specs.declared.step.TermRule.TheVariants.{Cut, On, Range}
-use Rattle.proof_kernel.specs.declared.step.Step.TheVariants.{Intro, Hyp, Split, Lin, OnGoal, OnHypothesis, OnTwo, Rewrite, OnTerm, Divide, Instantiate}
+use Rattle.proof_kernel.specs.declared.step.Step.TheVariants.{Intro, Hyp, Split, Lin, OnGoal, OnHypothesis, OnTwo, Rewrite, OnTerm, Divide, Instantiate, ByVariants, Induct}
 use Rattle.logic_term.specs.declared.kinds.Label2.{Label2}
 use Rattle.source_trees.specs.Pterm.{Pterm}
 use Rattle.term_texts.specs.TermTexts.{SpellsWholeTerm, IsTermText, NamesOfTerm}
@@ -88,6 +88,8 @@ rest_is table rest (OnHypothesis r l) h = (hypothesis_head r).2 rest ∙ ap is_s
 rest_is table rest (OnTerm r t) h = term_rest table rest r t h
 rest_is table rest (Divide t u) h = two_rest table rest t u h
 rest_is table rest (Instantiate l ts) h = instance_rest table rest l ts h
+rest_is table rest (ByVariants t names) h = absurd h
+rest_is table rest (Induct x names) h = absurd h
 rest_is table rest (OnTwo r l m) h = (pair_head r).2 rest ∙ ap is_some (rule_read table rest (OnTwo r l m) h)
 
 by_word : (s : Step) (rest : Option (List ℕ)) → line_by_head (word_of s) rest ≡ line_if (is_step (word_of s) rest) step
@@ -317,6 +319,10 @@ module _ (table other : List (List ℕ)) (rest : Option (List ℕ)) where
   alike_rest (OnGoal a) (OnGoal b) e r h k = cc
   alike_rest (OnHypothesis a l) (OnHypothesis b m) e r h k = (cc, cc)
   alike_rest (OnTwo a l m) (OnTwo b n o) e r h k = (cc, cc, cc)
+  alike_rest (ByVariants t names) _ e r h k = absurd h
+  alike_rest (Induct x names) _ e r h k = absurd h
+  alike_rest _ (ByVariants t names) e r h k = absurd k
+  alike_rest _ (Induct x names) e r h k = absurd k
   alike_rest (OnTerm Cut t) (OnTerm Cut u) e r h k = (refl, alike_term Cut t u h k)
   alike_rest (OnTerm On t) (OnTerm On u) e r h k = (refl, alike_term On t u h k)
   alike_rest (OnTerm Range t) (OnTerm Range u) e r h k = (refl, alike_term Range t u h k)

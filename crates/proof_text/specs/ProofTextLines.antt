@@ -10,7 +10,7 @@ use Rattle.logic_term.specs.declared.kinds.Label2.{Label2}
 use Rattle.source_trees.specs.Pterm.{Pterm}
 use Rattle.proof_kernel.specs.declared.step.Multiple.{Multiple}
 use Rattle.proof_kernel.specs.declared.step.Step.{Step}
-use Rattle.proof_kernel.specs.declared.step.Step.TheVariants.{Intro, Hyp, Split, Lin, OnGoal, OnHypothesis, OnTwo, Rewrite, OnTerm, Divide, Instantiate}
+use Rattle.proof_kernel.specs.declared.step.Step.TheVariants.{Intro, Hyp, Split, Lin, OnGoal, OnHypothesis, OnTwo, Rewrite, OnTerm, Divide, Instantiate, ByVariants, Induct}
 use Rattle.rs_tokens.specs.Tokens.{is_identifier}
 use Rattle.proof_text.specs.declared.rule_words.TermLine.{TermLine}
 use Rattle.proof_text.specs.declared.rule_words.TermLine.TheVariants.{Rule, Division, Instance}
@@ -67,6 +67,8 @@ word_of (Rewrite rewriting) = codes "rewrite"
 word_of (OnTerm rule t) = term_word rule
 word_of (Divide t u) = codes "div"
 word_of (Instantiate label ts) = codes "inst"
+word_of (ByVariants t names) = codes "on"
+word_of (Induct x names) = codes "induct"
 
 -- the rest of its line, under the table's names
 abbrev pub SpellsRest : List (List ℕ) → Option (List ℕ) → Step → Type 0
@@ -81,6 +83,9 @@ SpellsRest table rest (Rewrite rewriting) = (rest >>= rewriting_in) ≡ Some rew
 SpellsRest table rest (OnTerm rule t) = (text : List ℕ) × (rest ≡ Some text) × SpellsWholeTerm table text t
 SpellsRest table rest (Divide t u) = (texts : List ℕ × List ℕ) × ((rest >>= two_texts) ≡ Some texts) × SpellsWholeTerm table texts.0 t × SpellsWholeTerm table texts.1 u
 SpellsRest table rest (Instantiate label ts) = (text : List ℕ) × (t : Pterm) × ((rest >>= label_and_text) ≡ Some (label, text)) × (ts ≡ t ∷ []) × SpellsWholeTerm table text t
+-- no line has these yet
+SpellsRest table rest (ByVariants t names) = ⊥
+SpellsRest table rest (Induct x names) = ⊥
 
 -- the head and the rest spell the step
 abbrev pub SpellsParts : List (List ℕ) → List ℕ → Option (List ℕ) → Step → Type 0

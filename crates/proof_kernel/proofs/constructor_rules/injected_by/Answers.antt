@@ -13,7 +13,7 @@ pub returns-else-same_ctor : goal.returns-else-same_ctor
 returns-else-same_ctor c =
     elim c.else-same_ctor.branch [
       | else-same_ctor-via-then-same_ctor+else-ts-us w ↦ not_injected (constructed c.args.a.now) (constructed c.args.b.now) c.in-Some-Some.c c.in-Some-Some.d c.in-Some-Some.ts.now c.in-Some-Some.us.now c.in-Some-Some.ensures
-            c.in-Some-Some.ensures' (inr w.if-ts-us.false)
+          c.in-Some-Some.ensures' (inr w.if-ts-us.false)
       | else-same_ctor-via-else-same_ctor w ↦ not_injected (constructed c.args.a.now) (constructed c.args.b.now) c.in-Some-Some.c c.in-Some-Some.d c.in-Some-Some.ts.now c.in-Some-Some.us.now c.in-Some-Some.ensures c.in-Some-Some.ensures'
-            (inl (sym c.same_ctor.ensures ∙ w.if-same_ctor.false))
+          (inl (sym c.same_ctor.ensures ∙ w.if-same_ctor.false))
     ]
