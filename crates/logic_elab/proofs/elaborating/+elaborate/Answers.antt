@@ -37,8 +37,3 @@ elaborate_under-loop-operation-preserved g t c =
           ∙ up (g.S.TermScope.scope c.args.scope.now) (inside [] c.args.bound.now) c.pop.new.self.items c.loop-operation.operations.items c.in-Some.operation c.loop-operation.made c.in_ok-made-2.made c.in-Some.ensures.items c.in_ok-made-2.ensures;
       smaller = sizes.0;
     }
-
-pub elaborate_form-returns-in-Quantified-Forall-default-default : goal.elaborate_form-returns-in-Quantified-Forall-default-default
-elaborate_form-returns-in-Quantified-Forall-default-default g t c =
-    let h = c.elaborate_forall.ensures (span_of c.args.t.now) in
-    search (rules, h)
