@@ -37,3 +37,13 @@ elaborate_under-loop-operation-preserved g t c =
           ∙ up (g.S.TermScope.scope c.args.scope.now) (inside [] c.args.bound.now) c.pop.new.self.items c.loop-operation.operations.items c.in-Some.operation c.loop-operation.made c.in_ok-made-2.made c.in-Some.ensures.items c.in_ok-made-2.ensures;
       smaller = sizes.0;
     }
+
+pub elaborate_form-returns-in-If : goal.elaborate_form-returns-in-If
+elaborate_form-returns-in-If g t c =
+    let h = c.elaborate_choice.ensures (span_of c.args.t.now) in
+    search (rules, h)
+
+pub elaborate_form-returns-in-Quantified : goal.elaborate_form-returns-in-Quantified
+elaborate_form-returns-in-Quantified g t c =
+    let h = c.elaborate_quantified.ensures (span_of c.args.t.now) in
+    search (rules, h)
