@@ -118,7 +118,7 @@ const NOT_BY_GOAL: [(&str, &str, u32); 20] = [
 ];
 
 /// Rules by the form of one hypothesis. Those that take it apart number what they add from 1 in each premise.
-const BY_HYPOTHESIS: [(&str, &str); 23] = [
+const BY_HYPOTHESIS: [(&str, &str); 28] = [
     ("ZW>&&<z0<w0lzw<z0", "intro z w\ncases 1.1\nhyp 2.1\n"),
     ("ZW>&&<z0<w0lzw<w0", "intro z w\ncases 1.1\nhyp 2.2\n"),
     ("ZW>&&<z0<w0lzwlzw", "intro z w\ncases 1.1\nhyp 2.3\n"),
@@ -172,9 +172,14 @@ const BY_HYPOTHESIS: [(&str, &str); 23] = [
         "ZW>!=<z0<w0|!<w0!<z0",
         "intro z w\ncases 1.1\nleft\nhyp 2.2\nright\nhyp 2.1\n",
     ),
+    ("ZW>=azaw=zw", "intro z w\ninj 1.1\nhyp 2.1\n"),
+    ("ZW>=pz0pw1=zw", "intro z w\ninj 1.1\nhyp 2.1\n"),
+    ("ZW>=pz0pw1=01", "intro z w\ninj 1.1\nhyp 2.2\n"),
+    ("ZW>=azbw<z0", "intro z w\ndiffer 1.1\n"),
+    ("ZW>=nbw<z0", "intro z w\ndiffer 1.1\n"),
 ];
 
-const NOT_BY_HYPOTHESIS: [(&str, &str, u32); 17] = [
+const NOT_BY_HYPOTHESIS: [(&str, &str, u32); 25] = [
     ("ZW><z0<z0", "intro z w\ncases 1.1\n", 2),
     ("ZW>!<z0!<z0", "intro z w\ncases 1.1\n", 2),
     ("ZW>=zw<z0", "intro z w\ncases 1.1\n", 2),
@@ -200,6 +205,14 @@ const NOT_BY_HYPOTHESIS: [(&str, &str, u32); 17] = [
         "intro z w\ncases 1.1\nhyp 2.1\nhyp 2.1\n",
         4,
     ),
+    ("ZW>=azbw<z0", "intro z w\ninj 1.1\n", 2),
+    ("ZW>=azpzw<z0", "intro z w\ninj 1.1\n", 2),
+    ("ZW>=pzwu<z0", "intro z w\ninj 1.1\n", 2),
+    ("ZW>=zw<z0", "intro z w\ninj 1.1\n", 2),
+    ("ZW>=pz0pw1=zw", "intro z w\ninj 1.1\nhyp 2.2\n", 3),
+    ("ZW>=azaw<z0", "intro z w\ndiffer 1.1\n", 2),
+    ("ZW>=pzwu<z0", "intro z w\ndiffer 1.1\n", 2),
+    ("ZW>=zaw<z0", "intro z w\ndiffer 1.1\n", 2),
 ];
 
 /// Rules by the forms of two hypotheses.

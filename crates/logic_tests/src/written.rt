@@ -1,5 +1,5 @@
 //! Terms of short texts, an operator standing before its parts.
-use logic_term::{Term, Ty};
+use logic_term::{AdtId, Ctor, Term, Ty};
 use source_kinds::{ArithOp, IntKind};
 use std::alloc::Global;
 use text_core::{Name, NoMemory};
@@ -38,7 +38,12 @@ fn number(letter: u8) -> Option<i128> {
     })
 }
 
-/// What stands alone: a name, a number, `i` for 5 as an `i32`, `T` and `F`.
+/// Variant `number` of the declared type 0, of these parts.
+fn variant(alloc: Global, number: u32, parts: Vec<Term>) -> Result<Term, NoMemory> {
+    Term::made(alloc, Ctor::Variant(AdtId(0), number), parts)
+}
+
+/// What stands alone: a name, a number, `i` for 5 as an `i32`, `T` and `F`, `u` for `()`, and `n` for variant 2 without parts.
 fn leaf(alloc: Global, letter: u8) -> Result<Option<Term>, NoMemory> {
     if let Some(name) = variable(letter) {
         return Ok(Some(Term::var(alloc, name)?));
@@ -50,6 +55,8 @@ fn leaf(alloc: Global, letter: u8) -> Result<Option<Term>, NoMemory> {
         b'i' => Ok(Some(Term::lit(alloc, 5, Ty::int(IntKind::I32))?)),
         b'T' => Ok(Some(Term::truth(alloc, true)?)),
         b'F' => Ok(Some(Term::truth(alloc, false)?)),
+        b'u' => Ok(Some(Term::unit(alloc)?)),
+        b'n' => Ok(Some(variant(alloc, 2, Vec::new(alloc))?)),
         _ => Ok(None),
     }
 }
@@ -66,12 +73,21 @@ fn quantified(alloc: Global, letter: u8, body: Term) -> Result<Term, NoMemory> {
     }
 }
 
-/// `@` for the model, `_` for the negative, `!`, and quantifiers.
+/// Variant `number` of one part.
+fn of_one(alloc: Global, number: u32, t: Term) -> Result<Term, NoMemory> {
+    let mut parts = Vec::with_capacity(alloc, 1)?;
+    parts.push(t)?;
+    variant(alloc, number, parts)
+}
+
+/// `@` for the model, `_` for the negative, `!`, `a` and `b` for variants 0 and 1 of one part, and quantifiers.
 fn unary(alloc: Global, letter: u8, t: Term) -> Result<Term, NoMemory> {
     match letter {
         b'@' => Term::model(alloc, t),
         b'_' => Term::negative(alloc, t),
         b'!' => Term::not(alloc, t),
+        b'a' => of_one(alloc, 0, t),
+        b'b' => of_one(alloc, 1, t),
         _ => quantified(alloc, letter, t),
     }
 }
@@ -87,7 +103,15 @@ fn arithmetic(letter: u8) -> Option<ArithOp> {
     })
 }
 
-/// The operators of arithmetic, `<`, `l` for at most, `=`, `&`, `|`, and `>` for an implication.
+/// The tuple of both.
+fn pair(alloc: Global, a: Term, b: Term) -> Result<Term, NoMemory> {
+    let mut parts = Vec::with_capacity(alloc, 2)?;
+    parts.push(a)?;
+    parts.push(b)?;
+    Term::made(alloc, Ctor::Tuple, parts)
+}
+
+/// The operators of arithmetic, `<`, `l` for at most, `=`, `&`, `|`, `>` for an implication, and `p` for a tuple of two.
 fn binary(alloc: Global, letter: u8, a: Term, b: Term) -> Result<Term, NoMemory> {
     if let Some(op) = arithmetic(letter) {
         return Term::calculate(alloc, op, a, b);
@@ -99,6 +123,7 @@ fn binary(alloc: Global, letter: u8, a: Term, b: Term) -> Result<Term, NoMemory>
         b'&' => Term::and(alloc, a, b),
         b'|' => Term::or(alloc, a, b),
         b'>' => Term::implies(alloc, a, b),
+        b'p' => pair(alloc, a, b),
         _ => Err(NoMemory),
     }
 }
@@ -106,7 +131,7 @@ fn binary(alloc: Global, letter: u8, a: Term, b: Term) -> Result<Term, NoMemory>
 fn is_binary(letter: u8) -> bool {
     matches!(
         letter,
-        b'+' | b'-' | b'*' | b'/' | b'%' | b'<' | b'l' | b'=' | b'&' | b'|' | b'>'
+        b'+' | b'-' | b'*' | b'/' | b'%' | b'<' | b'l' | b'=' | b'&' | b'|' | b'>' | b'p'
     )
 }
 

@@ -10,7 +10,7 @@ use Rattle.proof_kernel.specs.Sequent.{Sequent}
 use Rattle.proof_kernel.specs.declared.step.GoalRule.{GoalRule}
 use Rattle.proof_kernel.specs.declared.step.GoalRule.TheVariants.{Refl, Truth, Left, Right, Contra, ByContradiction, Iff, Antisymmetry}
 use Rattle.proof_kernel.specs.declared.step.HypothesisRule.{HypothesisRule}
-use Rattle.proof_kernel.specs.declared.step.HypothesisRule.TheVariants.{Cases, Absurd, Drop, Revert, Back}
+use Rattle.proof_kernel.specs.declared.step.HypothesisRule.TheVariants.{Cases, Absurd, Drop, Revert, Back, Inject, Differ}
 use Rattle.proof_kernel.specs.declared.step.PairRule.{PairRule}
 use Rattle.proof_kernel.specs.declared.step.PairRule.TheVariants.{ModusPonens, Contradiction, Product}
 use Rattle.proof_kernel.specs.declared.step.Rewriting.{Rewriting}
@@ -19,7 +19,8 @@ use Rattle.proof_kernel.specs.declared.step.Target.{Target}
 use Rattle.proof_kernel.specs.declared.step.Target.TheVariants as targets
 use Rattle.proof_kernel.specs.GoalRules.{is_reflexive, is_true, left_of, right_of, denied_of, both_ways, both_orders, to_show, to_show_all, to_refute, goal_rule}
 use Rattle.proof_kernel.specs.BackRule.{back_of}
-use Rattle.proof_kernel.specs.HypothesisRules.{is_false, cases_of, in_cases, on_hypothesis, hypothesis_rule}
+use Rattle.proof_kernel.specs.ConstructorRules.{injected, equates_apart}
+use Rattle.proof_kernel.specs.HypothesisRules.{is_false, cases_of, in_cases, together, on_hypothesis, hypothesis_rule}
 use Rattle.proof_kernel.specs.PairRules.{concluded, is_denied_by, distance, product, adding, on_two, pair_rule}
 use Rattle.source_trees.specs.Pterm.{Pterm}
 use Rattle.proof_kernel.specs.declared.step.TermRule.{TermRule}
@@ -131,6 +132,8 @@ module _ (P : Label2 → Type 0) (N : Name → Type 0) (s : ℕ) (own : (k : ℕ
   one_has Drop l h e = these_have _ e ((without_each P l q.hyps has.0, has.1), tt)
   one_has Revert l h e = these_have _ e ((without_each P l q.hyps has.0, has.1), tt)
   one_has Back l h e = adding_has (back_of q.vars h) e
+  one_has Inject l h e = in_cases_has (together (injected h)) e
+  one_has Differ l h e = closed_has (equates_apart h) e
 
   pub hypothesis_has : (r : HypothesisRule) (l : Label2) → hypothesis_rule r s l q ≡ Some ps → Each (Has P N) ps
   hypothesis_has r l e = let f = one_found r s l q (hypothesis l q.hyps) ps e in one_has r l f.0 f.2

@@ -8,12 +8,15 @@ use Rattle.logic_term.specs.Meaning.{Structure, Env, Holds}
 use Rattle.logic_term.proofs.Truth.{holds_false, holds_not, holds_and, holds_or, holds_implies}
 use Rattle.proof_kernel.specs.Sequent.{Sequent, InSorts, AllHold, IsTrueAt, AllTrueAt}
 use Rattle.proof_kernel.specs.declared.step.HypothesisRule.{HypothesisRule}
-use Rattle.proof_kernel.specs.declared.step.HypothesisRule.TheVariants.{Cases, Absurd, Drop, Revert, Back}
-use Rattle.proof_kernel.specs.HypothesisRules.{is_false, disjuncts, alone, pushed, one_case, value_cases, denied_cases, cases_of, in_cases, on_hypothesis, hypothesis_rule}
+use Rattle.proof_kernel.specs.declared.step.HypothesisRule.TheVariants.{Cases, Absurd, Drop, Revert, Back, Inject, Differ}
+use Rattle.proof_kernel.specs.HypothesisRules.{is_false, disjuncts, alone, pushed, one_case, value_cases, denied_cases, cases_of, in_cases, together, on_hypothesis, hypothesis_rule}
 use Rattle.proof_kernel.specs.Rules.{same_label, hypothesis, without, labelled, with_hyps, conjuncts}
 use Rattle.proof_kernel.specs.BackRule.{back_of}
+use Rattle.proof_kernel.specs.ConstructorRules.{injected, equates_apart}
 use Rattle.proof_kernel.specs.SortTests.{are_formulas}
 use Rattle.proof_kernel.proofs.BackSound.{back_holds}
+use Rattle.proof_kernel.proofs.ConstructorSound.{parts_are_equal, apart_fails}
+use Rattle.proof_kernel.proofs.Facts.{AllTrue}
 use Rattle.proof_kernel.proofs.FormsFound.{same_some, picked, one_found}
 use Rattle.proof_kernel.proofs.GoalSound.{these_true, is_closed}
 use Rattle.proof_kernel.proofs.PairSound.{adding_sound}
@@ -120,12 +123,22 @@ module _ (S : Structure) where
     cases_sound None t c e ρ z k g = absurd (cc)
     cases_sound (Some tss) t c e ρ z k g = λ n. some_case q.vars ρ z t tss c g (no_case tss ρ (these_true S _ ps e h) z k (λ f. f n))
 
+    together_of : (ts : List Term) (ρ : Env) → AllTrue S ts ρ → Together ts ρ
+    together_of [] ρ a = tt
+    together_of (t ∷ ts) ρ a = (a.0, together_of ts ρ a.1)
+
+    together_sound : (o : Option (List Term)) (ρ : Env) → in_cases s q (together o) ≡ Some ps → InSorts S q.vars ρ → AllHold S q.hyps ρ → ((ts : List Term) → o ≡ Some ts → AllTrue S ts ρ) → Holds S q.goal ρ
+    together_sound None ρ e z k f = absurd (cc)
+    together_sound (Some ts) ρ e z k f = (these_true S _ ps e h).0 ρ z (hyps_more S q.hyps _ ρ k (labelled_hold s 1 ts ρ (together_of ts ρ (f ts refl))))
+
     one_sound : (r : HypothesisRule) (l : Label2) (t : Term) → on_hypothesis r s l q t ≡ Some ps → (ρ : Env) → InSorts S q.vars ρ → AllHold S q.hyps ρ → Holds S t ρ → Holds S q.goal ρ
     one_sound Cases l t e ρ z k g = cases_sound (cases_of q.vars t) t refl e ρ z k g
     one_sound Absurd l t e ρ z k g = absurd (false_fails t ρ (is_closed (is_false t) ps e) g)
     one_sound Drop l t e ρ z k g = (these_true S _ ps e h).0 ρ z (without_hold l q.hyps ρ k)
     one_sound Revert l t e ρ z k g = (holds_implies S t q.goal ρ).0 ((these_true S _ ps e h).0 ρ z (without_hold l q.hyps ρ k)) g
     one_sound Back l t e ρ z k g = adding_sound S s q ps h (back_of q.vars t) ρ e z k (λ u is. back_holds S q.vars ρ z t u is g)
+    one_sound Inject l t e ρ z k g = together_sound (injected t) ρ e z k (λ ts is. parts_are_equal S ρ t ts is g)
+    one_sound Differ l t e ρ z k g = absurd (apart_fails S ρ t (is_closed (equates_apart t) ps e) g)
 
     pub hypothesis_sound : (r : HypothesisRule) (l : Label2) → hypothesis_rule r s l q ≡ Some ps → IsTrueAt S q
     hypothesis_sound r l e ρ z k = let f = one_found r s l q (hypothesis l q.hyps) ps e in one_sound r l f.0 f.2 ρ z k (held S l q.hyps f.0 ρ f.1 k)

@@ -2,6 +2,7 @@ pub mod AcceptLaw
 pub mod Adds
 pub mod BackSound
 pub mod Conjuncts
+pub mod ConstructorSound
 pub mod Derived
 pub mod DivisionSound
 pub mod DroppedLaw

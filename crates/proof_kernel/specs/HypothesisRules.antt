@@ -6,8 +6,9 @@ use Rattle.logic_term.specs.Ty.{Ty}
 use Rattle.logic_term.specs.Term.{denied, equal, both, either, implied, Term, truth, apply, no_terms, and_term, not, and, or, implies}
 use Rattle.proof_kernel.specs.Sequent.{Sequent}
 use Rattle.proof_kernel.specs.declared.step.HypothesisRule.{HypothesisRule}
-use Rattle.proof_kernel.specs.declared.step.HypothesisRule.TheVariants.{Cases, Absurd, Drop, Revert, Back}
+use Rattle.proof_kernel.specs.declared.step.HypothesisRule.TheVariants.{Cases, Absurd, Drop, Revert, Back, Inject, Differ}
 use Rattle.proof_kernel.specs.BackRule.{back_of}
+use Rattle.proof_kernel.specs.ConstructorRules.{injected, equates_apart}
 use Rattle.proof_kernel.specs.PairRules.{adding}
 use Rattle.proof_kernel.specs.SortTests.{are_formulas}
 use Rattle.proof_kernel.specs.Rules.{hypothesis, conjuncts, with_goal, with_hyps, dropping, closed_if}
@@ -70,6 +71,11 @@ abbrev pub in_cases : ℕ → Sequent → Option (List (List Term)) → Option (
 in_cases s q None = None
 in_cases s q (Some cases) = Some (map (with_hyps s q) cases)
 
+-- one case, of these formulas
+abbrev pub together : Option (List Term) → Option (List (List Term))
+together None = None
+together (Some ts) = Some (ts ∷ [])
+
 -- ---- what step s gives
 
 -- by the rule on the hypothesis h of the label l
@@ -79,6 +85,8 @@ on_hypothesis Absurd s l q h = closed_if (is_false h)
 on_hypothesis Drop s l q h = Some (dropping l q ∷ [])
 on_hypothesis Revert s l q h = Some (with_goal (dropping l q) (implies h q.goal) ∷ [])
 on_hypothesis Back s l q h = adding s q (back_of q.vars h)
+on_hypothesis Inject s l q h = in_cases s q (together (injected h))
+on_hypothesis Differ s l q h = closed_if (equates_apart h)
 
 abbrev pub if_there : HypothesisRule → ℕ → Label2 → Sequent → Option Term → Option (List Sequent)
 if_there r s l q None = None

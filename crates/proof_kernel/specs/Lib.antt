@@ -1,5 +1,6 @@
 pub mod Accepts
 pub mod BackRule
+pub mod ConstructorRules
 pub mod Derivation
 pub mod Dropped
 pub mod ExchangeSteps

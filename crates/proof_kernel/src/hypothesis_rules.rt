@@ -2,10 +2,12 @@
 ghost use Rattle.std.specs.Prelude.{◌≡◌, ◌∷◌, [], Some, IfOk, MatchOption, map, false, if◌then◌else◌};
 ghost use Rattle.logic_term.specs.Term.{not, or, implies, two};
 ghost use Rattle.logic_term.specs.TermOperator.{binary_operator};
-ghost use Rattle.proof_kernel.specs.HypothesisRules.{is_false, disjuncts, is_disjunction, alone, pushed, one_case, if_formulas, denied_cases, cases_of, in_cases, on_hypothesis, hypothesis_rule};
+ghost use Rattle.proof_kernel.specs.HypothesisRules.{is_false, disjuncts, is_disjunction, alone, pushed, one_case, if_formulas, denied_cases, cases_of, in_cases, together, on_hypothesis, hypothesis_rule};
+ghost use Rattle.std.specs.Option.{option_map};
 ghost use Rattle.proof_kernel.specs.Rules.{conjuncts, dropping, with_goal, with_hyps, Finds};
 
 use crate::back_rule::back_of;
+use crate::constructor_rules::{equates_apart, injected};
 use crate::pair_rules::adding;
 use crate::rules::{
     closed_if, conjuncts_of, one_premise, two_premises, with_hypotheses, with_hypothesis,
@@ -244,6 +246,25 @@ fn cases(alloc: Global, step: u32, q: &Sequent, h: &Term) -> Result<Option<Vec<S
     }
 }
 
+/// One premise, with all the formulas.
+fn in_one_together(
+    alloc: Global,
+    step: u32,
+    q: &Sequent,
+    hyps: Option<Vec<Term>>,
+) -> Result<Option<Vec<Sequent>>, NoMemory>
+    ensures { IfOk result (λ o. Finds (in_cases step q.now (together (option_map (λ v. v.items) hyps))) o) }
+{
+    match hyps {
+        None => Ok(None),
+        Some(hyps) => {
+            let premise = with_hypotheses(alloc, step, q, hyps.as_slice())?;
+            let premises = one_premise(alloc, premise)?;
+            Ok(Some(premises))
+        }
+    }
+}
+
 // ---- the rules
 
 fn dropping(alloc: Global, label: Label2, q: &Sequent) -> Result<Vec<Sequent>, NoMemory>
@@ -280,6 +301,8 @@ fn on_hypothesis(
         HypothesisRule::Drop => Ok(Some(dropping(alloc, label, q)?)),
         HypothesisRule::Revert => Ok(Some(reverting(alloc, label, q, h)?)),
         HypothesisRule::Back => adding(alloc, step, q, back_of(alloc, q, h)?),
+        HypothesisRule::Inject => in_one_together(alloc, step, q, injected(alloc, h)?),
+        HypothesisRule::Differ => Ok(closed_if(alloc, equates_apart(h))),
     }
 }
 

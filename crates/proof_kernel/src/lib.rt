@@ -2,6 +2,7 @@
 #![tactic(auto)]
 
 mod back_rule;
+mod constructor_rules;
 mod exchange;
 mod goal_rules;
 mod hypothesis_rules;

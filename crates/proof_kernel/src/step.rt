@@ -54,6 +54,10 @@ pub enum HypothesisRule {
     Revert,
     /// `a@ == b@` of one machine type: adds `a == b`.
     Back,
+    /// An equation of two values of one constructor: adds those of their parts.
+    Inject,
+    /// An equation of values of two constructors; closes.
+    Differ,
 }
 
 /// A rule by the forms of two hypotheses.

@@ -6,7 +6,7 @@ use Rattle.logic_term.specs.declared.kinds.Label2.{Label2}
 use Rattle.proof_kernel.specs.declared.step.GoalRule.{GoalRule}
 use Rattle.proof_kernel.specs.declared.step.GoalRule.TheVariants.{Refl, Truth, Left, Right, Contra, ByContradiction, Iff, Antisymmetry}
 use Rattle.proof_kernel.specs.declared.step.HypothesisRule.{HypothesisRule}
-use Rattle.proof_kernel.specs.declared.step.HypothesisRule.TheVariants.{Cases, Absurd, Drop, Revert, Back}
+use Rattle.proof_kernel.specs.declared.step.HypothesisRule.TheVariants.{Cases, Absurd, Drop, Revert, Back, Inject, Differ}
 use Rattle.proof_kernel.specs.declared.step.PairRule.{PairRule}
 use Rattle.proof_kernel.specs.declared.step.PairRule.TheVariants.{ModusPonens, Contradiction, Product}
 use Rattle.proof_kernel.specs.declared.step.Direction.{Direction}
@@ -38,6 +38,8 @@ hypothesis_word Absurd = codes "absurd"
 hypothesis_word Drop = codes "drop"
 hypothesis_word Revert = codes "revert"
 hypothesis_word Back = codes "back"
+hypothesis_word Inject = codes "inj"
+hypothesis_word Differ = codes "differ"
 
 abbrev pub pair_word : PairRule → List ℕ
 pair_word ModusPonens = codes "mp"
@@ -107,7 +109,7 @@ abbrev pub goal_rules : List GoalRule
 goal_rules = Refl ∷ Truth ∷ Left ∷ Right ∷ Contra ∷ ByContradiction ∷ Iff ∷ Antisymmetry ∷ []
 
 abbrev pub hypothesis_rules : List HypothesisRule
-hypothesis_rules = Cases ∷ Absurd ∷ Drop ∷ Revert ∷ Back ∷ []
+hypothesis_rules = Cases ∷ Absurd ∷ Drop ∷ Revert ∷ Back ∷ Inject ∷ Differ ∷ []
 
 abbrev pub pair_rules : List PairRule
 pair_rules = ModusPonens ∷ Contradiction ∷ Product ∷ []

@@ -37,6 +37,8 @@ fn hypothesis_rule(word: &str) -> Option<HypothesisRule>
         "drop" => Some(HypothesisRule::Drop),
         "revert" => Some(HypothesisRule::Revert),
         "back" => Some(HypothesisRule::Back),
+        "inj" => Some(HypothesisRule::Inject),
+        "differ" => Some(HypothesisRule::Differ),
         _ => None,
     }
 }
