@@ -30,8 +30,8 @@ returns-in-None-clause-ok c =
     (has_items c.args.source.now c.args.names.now c.built_items.new.names c.in_ok-items.items c.requires.empty c.in_ok-items.ensures.ok c.in_ok-items.ensures.few c.in_ok-items.ensures.names)
     (rw c.as_slice.ensures at c.in_ok-declared.ensures.ok) (rw c.as_slice-2.ensures at c.in_ok-typed.ensures.answers) (sym c.in-None.ensures)
 
-pub returns-in-Some-clause-refused : goal.returns-in-Some-clause-refused
-returns-in-Some-clause-refused c =
+pub returns-clause-refused : goal.returns-clause-refused
+returns-clause-refused c =
     rw c.not_running.ensures
     (running_refused c.args.source.now c.built_items.new.names c.in_ok-items.items c.in_ok-typed.typed c.in_ok-declared.declared.table c.in-Some.place
     (has_items c.args.source.now c.args.names.now c.built_items.new.names c.in_ok-items.items c.requires.empty c.in_ok-items.ensures.ok c.in_ok-items.ensures.few c.in_ok-items.ensures.names)
