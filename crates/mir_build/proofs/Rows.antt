@@ -7,13 +7,13 @@ use Rattle.logic_term.specs.declared.kinds.Label.{Label}
 use Rattle.logic_term.specs.Ty.{Ty}
 use Rattle.mir_ir.specs.declared.place.Place.{Place}
 use Rattle.type_check.specs.declared.assertion.Assertion.{Assertion}
-use Rattle.type_check.specs.TypedExpr.{TypedExpr, TypedStmts, TypedExprs, integer, truth, variable, negative, denied, widened, binary, lazy, assign, update, call, make, part, block, branch, choice, repeat, panics, returned, endless, until_break, break_off, go_on, done, last, leaving, bind, run, none, more}
+use Rattle.type_check.specs.TypedExpr.{TypedExpr, TypedStmts, TypedExprs, integer, truth, variable, negative, denied, binary, lazy, assign, update, call, make, part, block, branch, choice, repeat, panics, returned, endless, until_break, break_off, go_on, done, last, leaving, bind, run, none, more}
 use Rattle.type_check.specs.Leaves.{leaves}
 use Rattle.type_check.specs.TypedExprView.{ty_of}
 use Rattle.type_check.specs.FirstBad.{bad_among, bad_in, bad_in_stmts, bad_in_exprs}
 use Rattle.type_check.specs.Answers.{or_else}
 use Rattle.type_check.specs.WellTyped.{Surroundings, within_loop, IsWellTyped, StatementsFit, ArgumentsFit, PartsFit}
-use Rattle.mir_build.specs.Lowering.{is_place, Around, accepted, whole, binds, looping, innermost, Into, of_integer, of_truth, of_variable, of_negative, of_denied, of_widened, of_binary, of_lazy, of_assign, of_update, of_call, of_make, of_part, of_block, of_branch}
+use Rattle.mir_build.specs.Lowering.{is_place, Around, accepted, whole, binds, looping, innermost, Into, of_integer, of_truth, of_variable, of_negative, of_denied, of_binary, of_lazy, of_assign, of_update, of_call, of_make, of_part, of_block, of_branch}
 use Rattle.mir_build.specs.Lowering.{of_choice, of_leaving_choice, of_repeat, of_panics, of_returned, of_endless, of_until_break, of_break_off, of_go_on, Rest, of_done, of_last, of_leaving, of_bind, of_run, Args, of_none, of_more, PlaceOf, of_name, of_part_place, of_temporary, IntoBody, of_outermost, of_other, named, named_place, named_rest, named_args, named_body}
 use Rattle.mir_build.specs.Text.{Line, Makes}
 use Rattle.mir_build.specs.Numbered.{no_loop, loop_at, place_of, text_before, place_before, choice_labels, choice_text, formula_of, into, rest, args, body_text, labels, labels_in, locals, temporaries, label, variable_place, between}
@@ -130,9 +130,6 @@ mutual
   lowers σ Γ (denied ty s e) c l t d h o w g =
       let p = lowers σ Γ e c l (t + 1) t h o w.2 g in
       (of_denied p.0, p.1)
-  lowers σ Γ (widened ty s e k) c l t d h o w g =
-      let p = lowers σ Γ e c l (t + 1) t h o w.4 g in
-      (of_widened p.0, p.1)
   lowers σ Γ (binary ty s op a b) c l t d h o w g =
       let u = t + 1 + locals a in
       let p = lowers σ Γ a c l (t + 1) t h o w.2 (first_none (bad_in a) (bad_in b) g) in

@@ -4,17 +4,13 @@ use Rattle.std.specs.Prelude.{ℕ, suc, ◌+◌, ◌*◌, max, Bool, true, false
 use Rattle.text_core.specs.declared.refusal.SourceError.{SourceError}
 use Rattle.text_core.specs.declared.span.Span.{Span}
 use Rattle.source_kinds.specs.declared.kinds.LazyOp.{LazyOp}
-use Rattle.mir_ir.specs.declared.place.Operand.{Operand}
 use Rattle.mir_ir.specs.declared.place.Operand.TheVariants.{Copy}
 use Rattle.mir_ir.specs.declared.place.Place.{Place}
-use Rattle.mir_ir.specs.declared.statement.Rvalue.{Rvalue}
-use Rattle.mir_ir.specs.declared.statement.Rvalue.TheVariants.{Use, Binary, Neg, Not, Widen}
+use Rattle.mir_ir.specs.declared.statement.Rvalue.TheVariants.{Use, Binary}
 use Rattle.type_check.specs.Answers.{or_else}
 use Rattle.type_check.specs.FirstBad.{bad_in}
 use Rattle.type_check.specs.TypedExpr.{TypedExpr, variable, part}
 use Rattle.type_check.specs.TypedExprView.{ty_of, typed_size}
-use Rattle.mir_build.specs.declared.operand.OneOperand.{OneOperand}
-use Rattle.mir_build.specs.declared.operand.OneOperand.TheVariants as one
 use Rattle.mir_build.specs.declared.task.Behind.{Behind}
 use Rattle.mir_build.specs.declared.task.Behind.TheVariants as behind
 use Rattle.mir_build.specs.declared.task.Task.{Task}
@@ -44,18 +40,6 @@ is_variable _ = false
 abbrev pub parts_of_place : Place → List ℕ → Place
 parts_of_place p [] = p
 parts_of_place p (n ∷ ns) = part_place (parts_of_place p ns) n
-
--- ---- one operand
-
--- what is made of one operand
-abbrev pub right_side : OneOperand → Operand → Rvalue
-right_side one.Neg o = Neg o
-right_side one.Not o = Not o
-right_side (one.Widen k) o = Widen o k
-
--- the text that writes what is made of a value in a local of its own
-abbrev pub operand_text : OneOperand → Span → TypedExpr → Around → ℕ → ℕ → ℕ → List Line
-operand_text made s e c l t d = Makes t (ty_of e) ∷ (into e c l (t + 1) t ++ puts s d (right_side made (moved t)) ∷ [])
 
 -- ---- behind a left operand, which is in local t
 

@@ -3,7 +3,7 @@ ghost use Rattle.std.specs.Prelude.{true, false, None, ◌&&◌, ◌≡◌, ◌+
 ghost use Rattle.type_check.specs.Answers.{or_else};
 ghost use Rattle.type_check.specs.FirstBad.{bad_among, bad_in, bad_in_exprs, bad_in_stmts};
 ghost use Rattle.type_check.specs.Leaves.{leaves};
-ghost use Rattle.type_check.specs.TypedExpr.{assign, update, branch, choice, repeat, call, make};
+ghost use Rattle.type_check.specs.TypedExpr.{negative, denied, assign, update, branch, choice, repeat, call, make};
 ghost use Rattle.type_check.specs.TypedExprView.{ty_of, stmts_of, exprs_of, typed_size};
 ghost use Rattle.type_check.specs.WellTyped.{unit};
 ghost use Rattle.mir_ir.specs.declared.terminator.TerminatorKind.TheVariants.{Return};
@@ -12,7 +12,7 @@ ghost use Rattle.mir_build.specs.Lowering.{moved, ends};
 ghost use Rattle.mir_build.specs.Numbered.{into, rest, if_text, args, loop_text, endless_text, broken_text, temporaries, labels, labels_of, labels_in, locals, locals_of, locals_in};
 ghost use Rattle.mir_build.specs.Reach.{reach, reach_of, reach_in};
 ghost use Rattle.mir_build.specs.Built.{written, around, end_of};
-ghost use Rattle.mir_build.specs.Tasks.{to_do, operand_text, lazy_text, behind_labels, behind_locals, behind_reach, behind_bad, task_text, task_labels, task_locals, task_size, task_reach, task_bad, task_weight};
+ghost use Rattle.mir_build.specs.Tasks.{to_do, lazy_text, behind_labels, behind_locals, behind_reach, behind_bad, task_text, task_labels, task_locals, task_size, task_reach, task_bad, task_weight};
 ghost use Rattle.mir_build.specs.Tasks.{tasks_text, tasks_labels, tasks_locals, tasks_size, tasks_reach, tasks_bad, tasks_weight};
 ghost use Rattle.mir_build.specs.declared.task.Task.TheVariants.{Finish};
 ghost use Rattle.mir_build.specs.declared.stop.Stop.TheVariants.{Blocks};
@@ -24,7 +24,7 @@ use crate::block_end::BlockEnd;
 use crate::builder::{Builder, moved, whole};
 use crate::jump::{lower_break, lower_continue};
 use crate::looping::{end_loop, enter_loop, leave_loop};
-use crate::operand::{OneOperand, push_left, right_side, take, take_place, type_of};
+use crate::operand::{push_left, take, take_place, type_of};
 use crate::stop::Stop;
 use crate::task::{Behind, Pending, Task};
 use logic_term::{Ctor, Label};
@@ -150,9 +150,8 @@ fn lower_left<'a>(
         TypedNode::Int(z, k) => Ok(b.put_constant(alloc, span, d, Lit::Int(*z, *k))?),
         TypedNode::Truth(v) => Ok(b.put_constant(alloc, span, d, Lit::Bool(*v))?),
         TypedNode::Variable(_) | TypedNode::Part(_, _) => take_place(alloc, b, c, e, d, tasks),
-        TypedNode::Neg(x) => lower_operand(alloc, b, c, span, OneOperand::Neg, x, d),
-        TypedNode::Not(x) => lower_operand(alloc, b, c, span, OneOperand::Not, x, d),
-        TypedNode::Widen(x, k) => lower_operand(alloc, b, c, span, OneOperand::Widen(*k), x, d),
+        TypedNode::Neg(x) => lower_neg(alloc, b, c, span, x, d),
+        TypedNode::Not(x) => lower_not(alloc, b, c, span, x, d),
         TypedNode::Call(f, es) => lower_call(alloc, b, c, span, *f, es, d),
         TypedNode::Make(k, es) => lower_make(alloc, b, c, span, *k, es, d),
         TypedNode::Block(ss) => lower_rest(alloc, b, c, false, span, ss, BlockEnd::Unit, d),
@@ -217,21 +216,20 @@ fn lower_behind(
     }
 }
 
-/// `-x`, `!x` and `x as T`: the operand in a local of its own, of which the value is made.
+/// `-x`.
 #[cycle(lower)]
 #[tactic(auto, using(crate::proofs::Runs::running))]
-fn lower_operand(
+fn lower_neg(
     alloc: Global,
     b: &mut Builder,
     c: &mut Around<'_>,
     span: Span,
-    made: OneOperand,
     x: &TypedExpr,
     d: u32,
 ) -> Result<(), Stop>
     requires scope { reach x.now ≤ length c.old.scope.items }
     requires good { bad_in x.now ≡ None }
-    ensures text { OnOk result (b.new.text ≡ written (operand_text made span x.now (around c.old) b.old.labels (length b.old.text.locals) d) b.old.text) }
+    ensures text { OnOk result (b.new.text ≡ written (into (negative unit span x.now) (around c.old) b.old.labels (length b.old.text.locals) d) b.old.text) }
     ensures labels { OnOk result (b.new.labels ≡ b.old.labels + labels x.now) }
     ensures locals { OnOk result (length b.new.text.locals ≡ length b.old.text.locals + 1 + locals x.now) }
     ensures limit { IfErr result (λ stop. stop ≡ Blocks → 4096 < b.old.labels + labels x.now) }
@@ -240,7 +238,32 @@ fn lower_operand(
     ensures count { OnOk result (length c.new.scope.items ≡ length c.old.scope.items) }
 {
     let t = lower_new(alloc, b, c, x)?;
-    Ok(b.put(alloc, span, d, right_side(made, moved(alloc, t)))?)
+    Ok(b.put(alloc, span, d, Rvalue::Neg(moved(alloc, t)))?)
+}
+
+/// `!x`.
+#[cycle(lower)]
+#[tactic(auto, using(crate::proofs::Runs::running))]
+fn lower_not(
+    alloc: Global,
+    b: &mut Builder,
+    c: &mut Around<'_>,
+    span: Span,
+    x: &TypedExpr,
+    d: u32,
+) -> Result<(), Stop>
+    requires scope { reach x.now ≤ length c.old.scope.items }
+    requires good { bad_in x.now ≡ None }
+    ensures text { OnOk result (b.new.text ≡ written (into (denied unit span x.now) (around c.old) b.old.labels (length b.old.text.locals) d) b.old.text) }
+    ensures labels { OnOk result (b.new.labels ≡ b.old.labels + labels x.now) }
+    ensures locals { OnOk result (length b.new.text.locals ≡ length b.old.text.locals + 1 + locals x.now) }
+    ensures limit { IfErr result (λ stop. stop ≡ Blocks → 4096 < b.old.labels + labels x.now) }
+    ensures most { OnOk result (b.old.labels ≤ 4096 → b.new.labels ≤ 4096) }
+    ensures around { OnOk result (around c.new ≡ around c.old) }
+    ensures count { OnOk result (length c.new.scope.items ≡ length c.old.scope.items) }
+{
+    let t = lower_new(alloc, b, c, x)?;
+    Ok(b.put(alloc, span, d, Rvalue::Not(moved(alloc, t)))?)
 }
 
 /// `to = value`: the value first. What names no place, at the root of parts too, goes to a temporary.

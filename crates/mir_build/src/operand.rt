@@ -8,7 +8,7 @@ ghost use Rattle.mir_build.specs.Numbered.{into, labels, locals};
 ghost use Rattle.mir_build.specs.Reach.{reach};
 ghost use Rattle.mir_build.specs.Built.{written, around};
 ghost use Rattle.mir_build.specs.Taking.{is_copied, taken};
-ghost use Rattle.mir_build.specs.Tasks.{right_side, to_do, tasks_text, tasks_labels, tasks_locals, tasks_size, tasks_reach, tasks_bad, tasks_weight};
+ghost use Rattle.mir_build.specs.Tasks.{to_do, tasks_text, tasks_labels, tasks_locals, tasks_size, tasks_reach, tasks_bad, tasks_weight};
 ghost use Rattle.mir_build.specs.declared.task.Task.TheVariants.{Lower, Finish};
 ghost use Rattle.mir_build.specs.declared.stop.Stop.TheVariants.{Blocks};
 
@@ -20,28 +20,9 @@ use crate::task::{Behind, Pending, Task};
 use logic_term::Ty;
 use mir_ir::{Operand, Place, Rvalue};
 use rs_types::CopyTypes;
-use source_kinds::IntKind;
 use std::alloc::Global;
 use text_core::Span;
 use type_check::TypedExpr;
-
-/// What is made of one operand.
-#[derive(Clone, Copy)]
-pub(crate) enum OneOperand {
-    Neg,
-    Not,
-    Widen(IntKind),
-}
-
-pub(crate) fn right_side(made: OneOperand, operand: Operand) -> Rvalue
-    ensures { result ≡ right_side made operand }
-{
-    match made {
-        OneOperand::Neg => Rvalue::Neg(operand),
-        OneOperand::Not => Rvalue::Not(operand),
-        OneOperand::Widen(kind) => Rvalue::Widen(operand, kind),
-    }
-}
 
 #[tactic(auto, using(crate::proofs::Parts::ty_of_node))]
 pub(crate) fn type_of(e: &TypedExpr) -> &Ty

@@ -40,7 +40,7 @@ const NOT_BUILT: [Row; 57] = [
     (b"fn f() { g((1, 2), x.y) }", Code::E20, 11, 12),
     (b"fn f() { f(x)(y) }", Code::E20, 9, 10),
     (b"fn f() { 1 + a.b(2) }", Code::E20, 13, 14),
-    (b"fn f() { x as Vec }", Code::E20, 14, 17),
+    (b"fn f() { x as u8 }", Code::E20, 9, 10),
     (b"fn f() { S { a: 1 } }", Code::E20, 9, 10),
     (b"fn f() { a::b }", Code::E20, 9, 10),
     (b"fn f() { let _ = 1; }", Code::E20, 13, 14),

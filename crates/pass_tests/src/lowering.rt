@@ -53,13 +53,6 @@ const BRANCHES_AND_LOOPS: [Row; 2] = [
     ),
 ];
 
-/// Each operand of the sum is cast, in a local of its own.
-const CASTS: [Row; 1] = [(
-    b"fn f(x: i32, y: i32) -> i64 { x as i64 + y as i64 }",
-    "f 2 7\n\
-     0: use 4 @30, widen 3 @30, use 6 @41, widen 5 @41, binary 0 @39, return @28\n",
-)];
-
 /// Behind a side that leaves no edge leads on, and where both sides leave no block stands behind them. The value of a last statement that
 /// leaves has a local, and the answer is not written. What stands behind a panic is in no block until a call begins the next one.
 const WHAT_LEAVES: [Row; 4] = [
@@ -165,11 +158,6 @@ pub(crate) fn expect(rt: &impl Abort, alloc: Global, rows: &[Row]) -> Result<(),
 #[test]
 fn branches_and_loops(rt: HostRuntime) -> Result<(), Fail> {
     expect(&rt, rt.alloc(), &BRANCHES_AND_LOOPS)
-}
-
-#[test]
-fn casts(rt: HostRuntime) -> Result<(), Fail> {
-    expect(&rt, rt.alloc(), &CASTS)
 }
 
 #[test]

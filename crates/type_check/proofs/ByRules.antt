@@ -18,7 +18,7 @@ use Rattle.type_check.specs.TypedExpr as tree
 use Rattle.type_check.specs.TypedExprView.{ty_of}
 use Rattle.type_check.specs.Typing.{Typed, is_bare, order_of, operands_of, operands, callee_of, first_of, rest_of, Opened, opened, declared, behind, typed_stmt, given, invariant_of, parts_of, Maker, maker_of, next_field, fields_behind, no_field_left, typed, typed_stmts, typed_args, typed_fields}
 use Rattle.type_check.specs.WellTyped.{unit, is_arithmetic}
-use Rattle.type_check.specs.Written.{as_name, name_alone, written_type, step_of}
+use Rattle.type_check.specs.Written.{as_name, name_alone, step_of}
 use Rattle.type_check.specs.Rules.{Asks, comes, part, first, operands_in, each_arg, each_field, each_stmt, rule, Types, by_rule, Comes, itself, refused, then, TypedByRules, TypingIsOne}
 
 -- ---- one outcome
@@ -82,7 +82,6 @@ mutual
   types : (σ : Setting) (Γ : List Variable) (e : Expr) (t : Option Ty) → Types σ Γ e t (typed σ Γ e t)
   types σ Γ (E.unary s Neg o e) t = by_rule (at_part σ Γ e t (typed σ Γ e t) _ _ (types σ Γ e t) (λ a. itself))
   types σ Γ (E.unary s Not o e) t = by_rule (at_part σ Γ e (Some bool) (typed σ Γ e (Some bool)) _ _ (types σ Γ e (Some bool)) (λ a. itself))
-  types σ Γ (E.cast s e w) t = by_rule (at_part σ Γ e None (typed σ Γ e None) _ _ (types σ Γ e None) (λ a. at_first (written_type σ.types w) _ _ (λ u. itself)))
   types σ Γ (E.binary s op o a b) t = by_rule (at_operands σ (order_of (is_arithmetic op) t (is_bare a) (is_bare b)) Γ a b _ _ (λ u. types σ Γ a u) (λ u. types σ Γ b u) (λ p. itself))
   types σ Γ (E.lazy s op a b) t = by_rule
       (at_part σ Γ a (Some bool) (typed σ Γ a (Some bool)) _ _ (types σ Γ a (Some bool)) (λ x. at_part σ Γ b (Some bool) (typed σ Γ b (Some bool)) _ _ (types σ Γ b (Some bool)) (λ y. itself)))

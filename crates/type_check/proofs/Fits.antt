@@ -6,7 +6,7 @@ use Rattle.text_core.specs.declared.name.Name.{Name}
 use Rattle.text_core.specs.declared.span.Span.{Span}
 use Rattle.source_kinds.specs.declared.kinds.BinaryOp.{BinaryOp}
 use Rattle.source_kinds.specs.declared.kinds.IntKind.{IntKind}
-use Rattle.source_kinds.specs.Range.{fits, widens}
+use Rattle.source_kinds.specs.Range.{fits}
 use Rattle.logic_term.specs.declared.declaration.AdtDecl.{AdtDecl}
 use Rattle.logic_term.specs.declared.declaration.FieldDecl.{FieldDecl}
 use Rattle.logic_term.specs.declared.declaration.VariantDecl.{VariantDecl}
@@ -55,7 +55,7 @@ use Rattle.type_check.specs.TypedExpr.{TypedExpr, TypedStmts, TypedExprs}
 use Rattle.type_check.specs.TypedExpr as tree
 use Rattle.type_check.specs.TypedExprView.{ty_of, stmt_of, stmts_of}
 use Rattle.type_check.specs.Types.{same_ty, is_signed_ty, is_built}
-use Rattle.type_check.specs.Typing.{Typed, fit, literal_kind, literal_of, literal, variable_of, variable, named, negated, is_bare, order_without, order_of, operands_of, operands, operation, operated, wider, cast_by, cast, may_write, if_mutable, writing, assigned}
+use Rattle.type_check.specs.Typing.{Typed, fit, literal_kind, literal_of, literal, variable_of, variable, named, negated, is_bare, order_without, order_of, operands_of, operands, operation, operated, may_write, if_mutable, writing, assigned}
 use Rattle.type_check.specs.Typing.{is_updated, updated, known, callee_of, how_many, first_of, rest_of, called, block_ty, declared, Opened, opened, typed_stmt, behind, without_last, closed, asked, given, choice_ty, cause_of, panicked, nothing, returned, bare_return, endless, in_a_loop, invariant_by, invariant_of, listed, parts_of, tupled, is_boxed, part_number, part_if, field_of, part_by, parted, selected, typed, typed_stmts, typed_args, typed_fields}
 use Rattle.type_check.specs.Typing.{Maker, arguments_for, maker_by, maker_first, maker_if, maker_at, maker_of, not_next, built_field, next_field, fields_behind, no_field_left, literal_made}
 use Rattle.type_check.specs.WellTyped.{unit, Surroundings, IsBuilt, PartsAreBuilt, AllBuilt, field_at, part_ty, tys_of_exprs, PartsFit, is_arithmetic, is_equality, operation_ty, is_signed, IsOf, IsOfOrLeaves, SpeaksOf, EachSpeaks, IsWellTyped, StatementsFit, ArgumentsFit}
@@ -168,25 +168,6 @@ operation_sound σ Γ (Some u) t s o r op p e q b h = fit_sound σ Γ t s (tree.
 operated_sound : (σ : Setting) (Γ : List Variable) (t : Option Ty) (s o r : Span) (op : BinaryOp) (p : Operands) (e : TypedExpr) → BothSound σ Γ p → operated t s o r op p ≡ Ok e → Sound σ Γ t e
 unfolding operated
 operated_sound σ Γ t s o r op p e b h = operation_sound σ Γ (operation_ty op (ty_of p.left)) t s o r op p e refl b h
-
--- ---- casts
-
-widest : (b : Bool) (j k l : IntKind) → widens j k ≡ b → (if b then Some k else None) ≡ Some l → widens j l ≡ true
-widest true j k l w p = let q : k ≡ l = cc in subst (λ m. widens j m ≡ true) q w
-widest false j k l w p = absurd (cc)
-
-wider_int : (u v : Ty) (k : IntKind) → wider u v ≡ Some k → (j : IntKind) × (widens j k ≡ true) × (u ≡ int j)
-wider_int (int j) (int l) k p = (j, widest (widens j l) j l k refl p, refl)
-wider_int (int j) v k p = absurd (cc)
-wider_int u v k p = absurd (cc)
-
-cast_at : (σ : Setting) (Γ : List Variable) (o : Option IntKind) (t : Option Ty) (s : Span) (u : Ty) (a r : TypedExpr) → wider (ty_of a) u ≡ o → IsWellTyped (surroundings σ) (types Γ) a → cast_by o t s a ≡ Ok r → Sound σ Γ t r
-cast_at σ Γ None t s u a r q w p = absurd (cc)
-cast_at σ Γ (Some k) t s u a r q w p = let j = wider_int (ty_of a) u k q in fit_sound σ Γ t s (tree.widened (int k) s a k) r (j.0, j.1, refl, j.2, w) tt p
-
-cast_sound : (σ : Setting) (Γ : List Variable) (t : Option Ty) (s : Span) (u : Ty) (a r : TypedExpr) → IsWellTyped (surroundings σ) (types Γ) a → cast t s u a ≡ Ok r → Sound σ Γ t r
-unfolding cast
-cast_sound σ Γ t s u a r w p = cast_at σ Γ (wider (ty_of a) u) t s u a r refl w p
 
 -- ---- assignments
 
@@ -598,10 +579,6 @@ mutual
       let a = bound (typed σ Γ e (Some bool)) _ r p in
       let sa = typed_sound σ Γ e (Some bool) a.0 ho tt a.1 in
       fit_sound σ Γ t s (tree.denied bool s a.0) r (refl, sa.meets, sa.well) tt a.2
-  typed_sound σ Γ (E.cast s e w) t r ho ht p =
-      let a = bound (typed σ Γ e None) _ r p in
-      let u = bound (written_type σ.types w) _ r a.2 in
-      cast_sound σ Γ t s u.0 a.0 r (typed_sound σ Γ e None a.0 ho tt a.1).well u.2
   typed_sound σ Γ (E.binary s op o a b) t r ho ht p =
       let q = bound (operands (order_of (is_arithmetic op) t (is_bare a) (is_bare b)) (typed σ Γ a) (typed σ Γ b)) _ r p in
       operated_sound σ Γ t s o (span_of a) op q.0 r

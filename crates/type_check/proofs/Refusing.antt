@@ -45,7 +45,7 @@ use Rattle.type_check.specs.TypedExpr.{TypedExpr, TypedStmts, TypedExprs}
 use Rattle.type_check.specs.TypedExpr as tree
 use Rattle.type_check.specs.TypedExprView.{ty_of, stmts_of}
 use Rattle.type_check.specs.Types.{same_ty, is_signed_ty, is_built}
-use Rattle.type_check.specs.Typing.{Typed, fit, literal_kind, literal_of, literal, variable_of, variable, named, negated, is_bare, order_of, operands_of, operands, operation, operated, wider, cast_by, cast, may_write, if_mutable, writing, assigned}
+use Rattle.type_check.specs.Typing.{Typed, fit, literal_kind, literal_of, literal, variable_of, variable, named, negated, is_bare, order_of, operands_of, operands, operation, operated, may_write, if_mutable, writing, assigned}
 use Rattle.type_check.specs.Typing.{is_updated, updated, known, callee_of, how_many, first_of, rest_of, called, asked, block_ty, declared, behind, typed_stmt, without_last, closed, given, choice_ty, cause_of, nothing, returned, endless, in_a_loop, invariant_by, invariant_of, parts_of, tupled, is_boxed, part_number, part_if, field_of, part_by, parted, selected, Maker, maker_of, next_field, fields_behind, literal_made, typed, typed_stmts, typed_args, typed_fields}
 use Rattle.type_check.specs.WellTyped.{unit, is_arithmetic, operation_ty, tys_of_exprs}
 use Rattle.type_check.specs.Written.{as_name, name_alone, written_type, written_or_none, name_or, declared_by, step_of}
@@ -98,14 +98,6 @@ operation_stops (Some u) t s o r op p e h = fit_stops t s (tree.binary u o op p.
 operated_stops : (t : Option Ty) (s o r : Span) (op : BinaryOp) (p : Operands) (e : SourceError) → operated t s o r op p ≡ Err e → IsMismatch e
 unfolding operated
 operated_stops t s o r op p e h = operation_stops (operation_ty op (ty_of p.left)) t s o r op p e h
-
-cast_at : (o : Option IntKind) (t : Option Ty) (s : Span) (a : TypedExpr) (e : SourceError) → cast_by o t s a ≡ Err e → IsMismatch e
-cast_at None t s a e p = let q : mismatch s ≡ e = cc in (s, sym q)
-cast_at (Some k) t s a e p = fit_stops t s (tree.widened (int k) s a k) e p
-
-cast_stops : (t : Option Ty) (s : Span) (u : Ty) (a : TypedExpr) (e : SourceError) → cast t s u a ≡ Err e → IsMismatch e
-unfolding cast
-cast_stops t s u a e p = cast_at (wider (ty_of a) u) t s a e p
 
 -- one of two parts stops, at some expected type
 abbrev pub OneStops : (Option Ty → Typed) → (Option Ty → Typed) → SourceError → Type 0
@@ -327,14 +319,6 @@ mutual
       elim (stop (typed σ Γ a (Some bool)) _ e p) as (λ _. Causes σ Γ (E.unary s Not o a) e) [
         | inl q ↦ inr (typed_stops σ Γ a (Some bool) e q)
         | inr x ↦ inl (fit_stops t s (tree.denied bool s x.0) e x.2)
-      ]
-  typed_stops σ Γ (E.cast s a w) t e p =
-      elim (stop (typed σ Γ a None) _ e p) as (λ _. Causes σ Γ (E.cast s a w) e) [
-        | inl q ↦ inr (typed_stops σ Γ a None e q)
-        | inr x ↦ elim (stop (written_type σ.types w) _ e x.2) as (λ _. Causes σ Γ (E.cast s a w) e) [
-          | inl q ↦ inl (inr q)
-          | inr u ↦ inl (inl (cast_stops t s u.0 x.0 e u.2))
-        ]
       ]
   typed_stops σ Γ (E.binary s op o a b) t e p =
       elim (stop (operands (order_of (is_arithmetic op) t (is_bare a) (is_bare b)) (typed σ Γ a) (typed σ Γ b)) _ e p) as (λ _. Causes σ Γ (E.binary s op o a b) e) [

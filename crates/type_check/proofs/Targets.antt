@@ -25,11 +25,11 @@ use Rattle.type_check.specs.TypedExpr.{TypedExpr, TypedStmts, TypedExprs}
 use Rattle.type_check.specs.TypedExpr as tree
 use Rattle.type_check.specs.TypedExprView.{ty_of, stmts_of}
 use Rattle.type_check.specs.Types.{same_ty, is_signed_ty, is_built}
-use Rattle.type_check.specs.Typing.{fit, literal_kind, literal_of, literal, variable_of, variable, named, negated, is_bare, order_of, operands, operation, operated, wider, cast_by, cast, is_mutable, may_write, assigned, is_updated, updated}
+use Rattle.type_check.specs.Typing.{fit, literal_kind, literal_of, literal, variable_of, variable, named, negated, is_bare, order_of, operands, operation, operated, is_mutable, may_write, assigned, is_updated, updated}
 use Rattle.type_check.specs.Typing.{callee_of, called, asked, block_ty, without_last, closed, given, choice_ty, cause_of, nothing, returned, endless, invariant_of, parts_of, tupled, is_boxed, part_number, part_if, field_of, part_by, parted, selected, maker_of, literal_made, typed, typed_stmts, typed_args, typed_fields}
 use Rattle.type_check.specs.Causes.{root_name}
 use Rattle.type_check.specs.WellTyped.{unit, is_arithmetic, operation_ty, tys_of_exprs}
-use Rattle.type_check.specs.Written.{as_name, name_alone, written_type}
+use Rattle.type_check.specs.Written.{as_name, name_alone}
 use Rattle.type_check.proofs.Bound.{bound, held, yes, same_ok}
 use Rattle.type_check.proofs.Fits.{fit_same, no_part, written_fits}
 
@@ -67,10 +67,6 @@ operation_named : (Γ : List Variable) (u t : Option Ty) (s o r : Span) (op : Bi
 operation_named Γ None t s o r op p e h = absurd (cc)
 operation_named Γ (Some u) t s o r op p e h = fit_named Γ None t s (tree.binary u o op p.left p.right) e tt h
 
-cast_named : (Γ : List Variable) (o : Option IntKind) (t : Option Ty) (s : Span) (a r : TypedExpr) → cast_by o t s a ≡ Ok r → IsNamed Γ None r
-cast_named Γ None t s a r p = absurd (cc)
-cast_named Γ (Some k) t s a r p = fit_named Γ None t s (tree.widened (int k) s a k) r tt p
-
 endless_at : (Γ : List Variable) (k : Bool) (t : Option Ty) (s : Span) (is : List Assertion) (b r : TypedExpr) → (if k then fit t s (tree.until_break unit s is b) else yes (tree.endless (asked t) s is b)) ≡ Ok r → IsNamed Γ None r
 endless_at Γ true t s is b r p = fit_named Γ None t s (tree.until_break unit s is b) r tt p
 endless_at Γ false t s is b r p = subst (IsNamed Γ None) (same_ok (tree.endless (asked t) s is b) r p) tt
@@ -85,7 +81,7 @@ part_named ds Γ x t s o a (Some p) r h q = fit_named Γ x t s (tree.part p.1 s 
 
 -- what an expression gives is a variable, or a part of one, only where a name is at its root
 pub typed_named : (σ : Setting) (Γ : List Variable) (e : Expr) (t : Option Ty) (r : TypedExpr) → typed σ Γ e t ≡ Ok r → IsNamed Γ (root_name e) r
-unfolding as_name literal negated operated cast assigned updated called closed tupled parted selected literal_made
+unfolding as_name literal negated operated assigned updated called closed tupled parted selected literal_made
 typed_named σ Γ (E.integer s z k) t r p = literal_at Γ t s z (literal_kind k t) r p
 typed_named σ Γ (E.truth s b) t r p = fit_named Γ None t s (tree.truth bool s b) r tt p
 typed_named σ Γ (E.path s w) t r p = path_named Γ t s (name_alone w.node) r p
@@ -95,10 +91,6 @@ typed_named σ Γ (E.unary s Neg o e) t r p =
 typed_named σ Γ (E.unary s Not o e) t r p =
     let a = bound (typed σ Γ e (Some bool)) _ r p in
     fit_named Γ None t s (tree.denied bool s a.0) r tt a.2
-typed_named σ Γ (E.cast s e w) t r p =
-    let a = bound (typed σ Γ e None) _ r p in
-    let u = bound (written_type σ.types w) _ r a.2 in
-    cast_named Γ (wider (ty_of a.0) u.0) t s a.0 r u.2
 typed_named σ Γ (E.binary s op o a b) t r p =
     let q = bound (operands (order_of (is_arithmetic op) t (is_bare a) (is_bare b)) (typed σ Γ a) (typed σ Γ b)) _ r p in
     operation_named Γ (operation_ty op (ty_of q.0.left)) t s o (span_of a) op q.0 r q.2

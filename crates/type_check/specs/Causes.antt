@@ -95,8 +95,6 @@ abbrev mutual
   Causes σ Γ (E.path s p) e = IsMismatch e ⊎ IsNotRead Γ s (name_alone p.node) e
   Causes σ Γ (E.unary s Neg o a) e = IsMismatch e ⊎ Causes σ Γ a e
   Causes σ Γ (E.unary s Not o a) e = IsMismatch e ⊎ Causes σ Γ a e
-  -- or the written type is refused
-  Causes σ Γ (E.cast s a w) e = (IsMismatch e ⊎ (written_type σ.types w ≡ Err e)) ⊎ Causes σ Γ a e
   Causes σ Γ (E.binary s op o a b) e = IsMismatch e ⊎ (Causes σ Γ a e ⊎ Causes σ Γ b e)
   Causes σ Γ (E.lazy s op a b) e = IsMismatch e ⊎ (Causes σ Γ a e ⊎ Causes σ Γ b e)
   Causes σ Γ (E.assign s l a) e = (IsMismatch e ⊎ IsNotWritten Γ l e) ⊎ (Causes σ Γ l e ⊎ Causes σ Γ a e)

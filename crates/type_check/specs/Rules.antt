@@ -19,9 +19,9 @@ use Rattle.type_check.specs.Setting.{Setting, looping, outside}
 use Rattle.type_check.specs.TypedExpr.{TypedExpr, TypedExprs}
 use Rattle.type_check.specs.TypedExpr as tree
 use Rattle.type_check.specs.TypedExprView.{ty_of, stmts_of}
-use Rattle.type_check.specs.Typing.{Typed, fit, asked, literal, named, negated, is_bare, order_of, operands_of, operated, cast, assigned, updated, callee_of, first_of, rest_of, called, parts_of, tupled, parted, selected, Maker, maker_of, next_field, fields_behind, no_field_left, literal_made, Opened, opened, declared, behind, typed_stmt, without_last, closed, given, chosen, panicked, returned, bare_return, endless, in_a_loop, invariant_of, typed}
+use Rattle.type_check.specs.Typing.{Typed, fit, asked, literal, named, negated, is_bare, order_of, operands_of, operated, assigned, updated, callee_of, first_of, rest_of, called, parts_of, tupled, parted, selected, Maker, maker_of, next_field, fields_behind, no_field_left, literal_made, Opened, opened, declared, behind, typed_stmt, without_last, closed, given, chosen, panicked, returned, bare_return, endless, in_a_loop, invariant_of, typed}
 use Rattle.type_check.specs.WellTyped.{unit, is_arithmetic}
-use Rattle.type_check.specs.Written.{as_name, name_alone, written_type, step_of}
+use Rattle.type_check.specs.Written.{as_name, name_alone, step_of}
 
 -- what is asked: a part in its setting and scope, at an expected type if there is one, and from its typed tree on what else; or nothing
 -- more
@@ -67,8 +67,6 @@ rule σ Γ (E.truth s b) t = comes (fit t s (tree.truth bool s b))
 rule σ Γ (E.path s p) t = comes (named Γ t s (name_alone p.node))
 rule σ Γ (E.unary s Neg o e) t = part σ Γ e t λ a. comes (negated t s o (span_of e) a)
 rule σ Γ (E.unary s Not o e) t = part σ Γ e (Some bool) λ a. comes (fit t s (tree.denied bool s a))
--- the operand gives its type
-rule σ Γ (E.cast s e w) t = part σ Γ e None λ a. first (written_type σ.types w) λ u. comes (cast t s u a)
 rule σ Γ (E.binary s op o a b) t = operands_in σ (order_of (is_arithmetic op) t (is_bare a) (is_bare b)) Γ a b λ p. comes (operated t s o (span_of a) op p)
 rule σ Γ (E.lazy s op a b) t = part σ Γ a (Some bool) λ x. part σ Γ b (Some bool) λ y. comes (fit t s (tree.lazy bool s op x y))
 rule σ Γ (E.assign s l e) t = part σ Γ l None λ a. part σ Γ e (Some (ty_of a)) λ b. comes (assigned Γ t s (span_of l) a b)

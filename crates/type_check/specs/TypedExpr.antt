@@ -17,8 +17,6 @@ mutual
     variable : Ty → Span → ℕ → TypedExpr
     negative : Ty → Span → TypedExpr → TypedExpr
     denied : Ty → Span → TypedExpr → TypedExpr
-    -- the same integer, of a type that has each value of the operand's
-    widened : Ty → Span → TypedExpr → IntKind → TypedExpr
     binary : Ty → Span → BinaryOp → TypedExpr → TypedExpr → TypedExpr
     lazy : Ty → Span → LazyOp → TypedExpr → TypedExpr → TypedExpr
     -- what is assigned to, and the value

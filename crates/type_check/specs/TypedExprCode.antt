@@ -11,7 +11,7 @@ use Rattle.logic_term.specs.contracts.kinds.Ctor as ctor
 use Rattle.source_kinds.specs.contracts.kinds.LazyOp as lazy_op
 use Rattle.type_check.specs.contracts.assertion.Assertion as assertion
 use base.Stored.{Gv, gnil, gnum, gcons, num}
-use Rattle.type_check.specs.TypedExpr.{TypedExpr, integer, truth, variable, negative, denied, widened, binary, lazy, assign, update, call, make, part, block, branch, choice, repeat, panics, returned, endless, until_break, break_off, go_on, TypedStmts, done, last, leaving, bind, run, TypedExprs, none, more}
+use Rattle.type_check.specs.TypedExpr.{TypedExpr, integer, truth, variable, negative, denied, binary, lazy, assign, update, call, make, part, block, branch, choice, repeat, panics, returned, endless, until_break, break_off, go_on, TypedStmts, done, last, leaving, bind, run, TypedExprs, none, more}
 
 abbrev pub head : Gv → Gv
 head gnil = gnil
@@ -40,7 +40,6 @@ abbrev mutual
   typed_code (call a0 a1 a2 a3) = gcons (gnum 9) (gcons (coded_ty.code a0) (gcons (span.the_row.coded.code a1) (gcons (coded_ℕ.code a2) (exprs_code a3))))
   typed_code (make a0 a1 a2 a3) = gcons (gnum 20) (gcons (coded_ty.code a0) (gcons (span.the_row.coded.code a1) (gcons (ctor.the_row.coded.code a2) (exprs_code a3))))
   typed_code (part a0 a1 a2 a3) = gcons (gnum 21) (gcons (coded_ty.code a0) (gcons (span.the_row.coded.code a1) (gcons (typed_code a2) (coded_ℕ.code a3))))
-  typed_code (widened a0 a1 a2 a3) = gcons (gnum 22) (gcons (coded_ty.code a0) (gcons (span.the_row.coded.code a1) (gcons (typed_code a2) (int_kind.the_row.coded.code a3))))
   typed_code (block a0 a1 a2) = gcons (gnum 10) (gcons (coded_ty.code a0) (gcons (span.the_row.coded.code a1) (stmts_code a2)))
   typed_code (branch a0 a1 a2 a3) = gcons (gnum 11) (gcons (coded_ty.code a0) (gcons (span.the_row.coded.code a1) (gcons (typed_code a2) (typed_code a3))))
   typed_code (choice a0 a1 a2 a3 a4) = gcons (gnum 12) (gcons (coded_ty.code a0) (gcons (span.the_row.coded.code a1) (gcons (typed_code a2) (gcons (typed_code a3) (typed_code a4)))))
@@ -88,8 +87,6 @@ mutual
       λ i. make (coded_ty.inj a0 b0 (ap (λ g. head (tail g)) p) i) (span.the_row.coded.inj a1 b1 (ap (λ g. head (tail (tail g))) p) i) (ctor.the_row.coded.inj a2 b2 (ap (λ g. head (tail (tail (tail g)))) p) i) (exprs_injective a3 b3 (ap (λ g. tail (tail (tail (tail g)))) p) i)
   typed_injective (part a0 a1 a2 a3) (part b0 b1 b2 b3) p =
       λ i. part (coded_ty.inj a0 b0 (ap (λ g. head (tail g)) p) i) (span.the_row.coded.inj a1 b1 (ap (λ g. head (tail (tail g))) p) i) (typed_injective a2 b2 (ap (λ g. head (tail (tail (tail g)))) p) i) (coded_ℕ.inj a3 b3 (ap (λ g. tail (tail (tail (tail g)))) p) i)
-  typed_injective (widened a0 a1 a2 a3) (widened b0 b1 b2 b3) p =
-      λ i. widened (coded_ty.inj a0 b0 (ap (λ g. head (tail g)) p) i) (span.the_row.coded.inj a1 b1 (ap (λ g. head (tail (tail g))) p) i) (typed_injective a2 b2 (ap (λ g. head (tail (tail (tail g)))) p) i) (int_kind.the_row.coded.inj a3 b3 (ap (λ g. tail (tail (tail (tail g)))) p) i)
   typed_injective (block a0 a1 a2) (block b0 b1 b2) p = λ i. block (coded_ty.inj a0 b0 (ap (λ g. head (tail g)) p) i) (span.the_row.coded.inj a1 b1 (ap (λ g. head (tail (tail g))) p) i) (stmts_injective a2 b2 (ap (λ g. tail (tail (tail g))) p) i)
   typed_injective (branch a0 a1 a2 a3) (branch b0 b1 b2 b3) p =
       λ i. branch (coded_ty.inj a0 b0 (ap (λ g. head (tail g)) p) i) (span.the_row.coded.inj a1 b1 (ap (λ g. head (tail (tail g))) p) i) (typed_injective a2 b2 (ap (λ g. head (tail (tail (tail g)))) p) i) (typed_injective a3 b3 (ap (λ g. tail (tail (tail (tail g)))) p) i)

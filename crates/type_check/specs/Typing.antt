@@ -1,5 +1,5 @@
 -- Which variable each name means and which type each expression has, in the form of bidirectional typing (Pierce and Turner
--- 2000): without an expected type an expression gives one, with one it fits it (Rust Reference, "Operator expressions", "Type cast expressions",
+-- 2000): without an expected type an expression gives one, with one it fits it (Rust Reference, "Operator expressions",
 -- "Call expressions", "Tuple expressions", "Tuple indexing expressions", "Field access expressions", "Struct expressions", "Block expressions", "if expressions", "Predicate loops", "Infinite loops", "break expressions", "continue expressions", "return expressions", "Diverging expressions"). What has no row is not built.
 use Rattle.std.specs.Prelude.{ℕ, zero, suc, ℤ, pos, ◌==◌, ◌++◌, Bool, true, false, List, [], ◌∷◌, length, Option, Some, None, Result, Ok, Err, slice_get, if◌then◌else◌}
 use Rattle.text_core.specs.declared.name.Name.{Name}
@@ -10,7 +10,7 @@ use Rattle.text_core.specs.declared.span.Span.{Span}
 use Rattle.source_kinds.specs.declared.kinds.BinaryOp.{BinaryOp}
 use Rattle.source_kinds.specs.declared.kinds.IntKind.{IntKind}
 use Rattle.source_kinds.specs.declared.kinds.IntKind.TheVariants.{I32}
-use Rattle.source_kinds.specs.Range.{fits, widens}
+use Rattle.source_kinds.specs.Range.{fits}
 use Rattle.logic_term.specs.declared.declaration.AdtDecl.{AdtDecl}
 use Rattle.logic_term.specs.declared.declaration.FieldDecl.{FieldDecl}
 use Rattle.logic_term.specs.declared.declaration.VariantDecl.{VariantDecl}
@@ -55,7 +55,7 @@ use Rattle.type_check.specs.TypedExprView.{ty_of, stmt_of, stmts_of}
 use Rattle.type_check.specs.DeclaredTypes.{numbered}
 use Rattle.type_check.specs.Types.{same_ty, is_signed_ty, is_built}
 use Rattle.type_check.specs.WellTyped.{unit, is_arithmetic, operation_ty, nth_part, struct_fields, field_at, tys_of_exprs}
-use Rattle.type_check.specs.Written.{as_name, name_alone, written_type, step_of}
+use Rattle.type_check.specs.Written.{as_name, name_alone, step_of}
 
 abbrev pub Typed : Type 0
 Typed = Result TypedExpr SourceError
@@ -141,21 +141,6 @@ operation (Some u) t s o r op p = fit t s (tree.binary u o op p.left p.right)
 -- the spans are the expression's, the operator's and the first operand's
 unfoldable pub operated : Option Ty → Span → Span → Span → BinaryOp → Operands → Typed
 operated t s o r op p = operation (operation_ty op (ty_of p.left)) t s o r op p
-
--- ---- casts
-
--- the kind of the second type, where a cast to it from the first loses nothing
-abbrev pub wider : Ty → Ty → Option IntKind
-wider (int j) (int k) = if widens j k then Some k else None
-wider _ _ = None
-
-abbrev pub cast_by : Option IntKind → Option Ty → Span → TypedExpr → Typed
-cast_by None t s a = Err (mismatch s)
-cast_by (Some k) t s a = fit t s (tree.widened (int k) s a k)
-
--- to the type u
-unfoldable pub cast : Option Ty → Span → Ty → TypedExpr → Typed
-cast t s u a = cast_by (wider (ty_of a) u) t s a
 
 -- ---- assignments
 
@@ -465,10 +450,6 @@ abbrev mutual
   typed σ Γ (E.unary s Not o e) t = do
     a ← typed σ Γ e (Some bool)
     fit t s (tree.denied bool s a)
-  typed σ Γ (E.cast s e w) t = do
-    a ← typed σ Γ e None
-    u ← written_type σ.types w
-    cast t s u a
   typed σ Γ (E.binary s op o a b) t = do
     p ← operands (order_of (is_arithmetic op) t (is_bare a) (is_bare b)) (typed σ Γ a) (typed σ Γ b)
     operated t s o (span_of a) op p

@@ -32,7 +32,6 @@ fn form_breaks(e: &TypedExpr) -> bool
         TypedNode::Break => true,
         TypedNode::Neg(a) => breaks(a),
         TypedNode::Not(a) => breaks(a),
-        TypedNode::Widen(a, _) => breaks(a),
         TypedNode::Binary(_, a, b) => breaks(a) || breaks(b),
         TypedNode::Lazy(_, a, b) => breaks(a) || breaks(b),
         TypedNode::Assign(a, b) => breaks(a) || breaks(b),

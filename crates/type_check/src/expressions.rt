@@ -24,11 +24,11 @@ use crate::tuples::{parts_of, tupled};
 use crate::typed::{TypedExpr, TypedNode, TypedStmt};
 use crate::types::is_arithmetic;
 use crate::typing::{
-    assigned, bare_return, branch, called, cast, choice, denied, endless, given_by, given_ty, in_a_loop,
+    assigned, bare_return, branch, called, choice, denied, endless, given_by, given_ty, in_a_loop,
     is_bare, lazy, literal, named, negated, operated, order_of, panicked, param_ty, repeat,
     returned, span_of, spans_at, truth, updated,
 };
-use crate::written::{as_name, name_alone, step_of, written_type};
+use crate::written::{as_name, name_alone, step_of};
 use logic_term::Ty;
 use source_kinds::{BinaryOp, LazyOp};
 use source_trees::{
@@ -101,7 +101,6 @@ fn type_form(
         ExprNode::Unary(op, at, a) => type_unary(
             alloc, setting, scope, expected, whole, *op, *at, a,
         ),
-        ExprNode::Cast(value, ty) => type_cast(alloc, setting, scope, expected, whole, value, ty),
         ExprNode::Binary(op, at, a, b) => type_binary(
             alloc, setting, scope, expected, whole, *op, *at, a, b,
         ),
@@ -178,6 +177,7 @@ fn type_form(
         | ExprNode::While(Some(_), _, _)
         | ExprNode::Closure(_, _, _, _, _)
         | ExprNode::Ghost(_, _)
+        | ExprNode::Cast(_, _)
         | ExprNode::Borrow(_, _)
         | ExprNode::Method(_, _, _, _) => Err(unbuilt(whole)),
     }
@@ -210,26 +210,6 @@ fn type_unary(
         }
         UnaryOp::Deref => Err(unbuilt(whole)),
     }
-}
-
-/// `value as ty`: the value gives its type.
-#[cycle(type_expr)]
-#[tactic(auto, using(crate::proofs::Parts::parts))]
-fn type_cast(
-    alloc: Global,
-    setting: &Setting<'_>,
-    scope: &mut Vec<Variable>,
-    expected: &Option<Ty>,
-    whole: Span,
-    value: &Expr,
-    ty: &TypeTree,
-) -> Result<TypedExpr, PassError>
-    ensures answers { Answers result (typed (setting_of setting.now) scope.old.items (E.cast whole value.now ty.now) expected.now) }
-    ensures kept { OnOk result (scope.new.items ≡ scope.old.items) }
-{
-    let operand = type_expr(alloc, setting, scope, value, &None)?;
-    let ty = written_type(alloc, setting.types, ty)?;
-    cast(alloc, expected, whole, &ty, operand)
 }
 
 /// `left + right` and the like.

@@ -80,7 +80,6 @@ fn bad_in_form(e: &TypedExpr) -> Option<SourceError>
         TypedNode::Variable(_) => None,
         TypedNode::Neg(a) => bad_in(a),
         TypedNode::Not(a) => bad_in(a),
-        TypedNode::Widen(a, _) => bad_in(a),
         TypedNode::Binary(_, a, b) => earlier(bad_in(a), bad_in(b)),
         TypedNode::Lazy(_, a, b) => earlier(bad_in(a), bad_in(b)),
         TypedNode::Assign(a, b) => earlier(bad_in(a), bad_in(b)),

@@ -28,8 +28,6 @@ pub enum TypedNode {
     Variable(u32),
     Neg(TypedExpr),
     Not(TypedExpr),
-    /// The same integer, of a type that has each value of the operand's.
-    Widen(TypedExpr, IntKind),
     Binary(BinaryOp, TypedExpr, TypedExpr),
     Lazy(LazyOp, TypedExpr, TypedExpr),
     /// To the first. Where that is no variable, what is assigned is lost.
@@ -118,7 +116,6 @@ impl TypedExpr {
         match Box::into_inner(node) {
             TypedNode::Neg(left) => Some(left),
             TypedNode::Not(left) => Some(left),
-            TypedNode::Widen(left, _) => Some(left),
             TypedNode::Binary(_, left, _) => Some(left),
             TypedNode::Lazy(_, left, _) => Some(left),
             TypedNode::Assign(left, _) => Some(left),

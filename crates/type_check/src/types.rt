@@ -3,7 +3,7 @@ ghost use Rattle.source_kinds.specs.Range.{fits};
 ghost use Rattle.std.specs.Prelude.{slice_get};
 ghost use Rattle.logic_term.specs.TyView.{compound_of, tys_of};
 ghost use Rattle.type_check.specs.Types.{same_ty, is_bool, is_signed_ty, is_built, are_built, may_name};
-ghost use Rattle.type_check.specs.Typing.{is_updated, wider};
+ghost use Rattle.type_check.specs.Typing.{is_updated};
 ghost use Rattle.type_check.specs.WellTyped.{is_arithmetic, is_equality, operation_ty};
 
 use logic_term::{AdtDecl, AdtId, CompoundTy, Ty, TyNode, TyUnary};
@@ -61,19 +61,6 @@ pub(crate) fn operation_ty(op: BinaryOp, t: &Ty) -> Option<Ty>
         TyNode::Int(kind) if is_arithmetic(op) => Some(Ty::int(*kind)),
         TyNode::Int(_) => Some(Ty::bool()),
         TyNode::Bool if is_equality(op) => Some(Ty::bool()),
-        _ => None,
-    }
-}
-
-/// The kind of the second type, where a cast to it from the first loses nothing.
-pub(crate) fn wider(from: &Ty, to: &Ty) -> Option<IntKind>
-    ensures { result ≡ wider from.now to.now }
-{
-    let TyNode::Int(narrow) = &from.node else {
-        return None;
-    };
-    match &to.node {
-        TyNode::Int(wide) if narrow.widens_to(*wide) => Some(*wide),
         _ => None,
     }
 }

@@ -4,7 +4,7 @@ ghost use Rattle.source_trees.specs.ExprView.{span_of};
 ghost use Rattle.type_check.specs.Answers.{Answers};
 ghost use Rattle.type_check.specs.TypedExpr as tree;
 ghost use Rattle.type_check.specs.TypedExprView.{ty_of, typed_of, exprs_of};
-ghost use Rattle.type_check.specs.Typing.{fit, order_of, literal_kind, literal, variable, negated, is_bare, named, operated, cast, if_mutable, may_write, assigned, updated, called, is_updated, asked, given, choice_ty, chosen, panicked, returned, bare_return, endless, in_a_loop};
+ghost use Rattle.type_check.specs.Typing.{fit, order_of, literal_kind, literal, variable, negated, is_bare, named, operated, if_mutable, may_write, assigned, updated, called, is_updated, asked, given, choice_ty, chosen, panicked, returned, bare_return, endless, in_a_loop};
 ghost use Rattle.type_check.specs.WellTyped.{unit};
 
 use crate::assertion::Assertion;
@@ -15,7 +15,7 @@ use crate::operands::{Operands, Order};
 use crate::refusal::{mismatch, not_mutable, unbuilt, unknown_name};
 use crate::scope::{Found, Variable, find_variable};
 use crate::typed::{TypedExpr, TypedNode};
-use crate::types::{fits, is_signed_ty, is_updated, operation_ty, same_ty, wider};
+use crate::types::{fits, is_signed_ty, is_updated, operation_ty, same_ty};
 use logic_term::{Ty, TyNode};
 use source_kinds::{BinaryOp, IntKind, LazyOp};
 use source_trees::{Expr, ExprNode, PanicMacro, Segment};
@@ -185,24 +185,6 @@ pub(crate) fn operated(
     let node = TypedNode::Binary(op, left, right);
     let span = spans.operator;
     fit(alloc, expected, spans.whole, ty, span, node)
-}
-
-/// `operand as ty`. E07 at the whole where these are no two integer types, or the cast may lose something.
-#[tactic(auto, unfolding(crate::specs::Typing::cast))]
-pub(crate) fn cast(
-    alloc: Global,
-    expected: &Option<Ty>,
-    whole: Span,
-    ty: &Ty,
-    operand: TypedExpr,
-) -> Result<TypedExpr, PassError>
-    ensures { Answers result (cast expected.now whole ty.now operand) }
-{
-    let Some(kind) = wider(ty_of(&operand), ty) else {
-        return Err(mismatch(whole));
-    };
-    let node = TypedNode::Widen(operand, kind);
-    fit(alloc, expected, whole, Ty::int(kind), whole, node)
 }
 
 /// Whether the target is a variable that is mutable, a part of one, or no variable at all.

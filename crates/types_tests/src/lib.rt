@@ -1,4 +1,4 @@
-//! Tests of the table of declared types, of which types are `Copy`, of assignments, of what leaves, of `break` and `continue`, of casts, of tuples, and of structs in functions.
+//! Tests of the table of declared types, of which types are `Copy`, of assignments, of what leaves, of `break` and `continue`, of tuples, and of structs in functions.
 #![tactic(auto)]
 
 #[cfg(test)]
@@ -7,8 +7,6 @@ mod assigning;
 mod breaking;
 #[cfg(test)]
 mod build;
-#[cfg(test)]
-mod casting;
 #[cfg(test)]
 mod closing;
 #[cfg(test)]

@@ -14,7 +14,7 @@ use std::alloc::Global;
 use text_core::{Code, Items, Names, PassError, SourceError, Span};
 
 /// The forms that are built. Whoever builds a form puts its word here.
-pub(crate) const BUILT: [Form; 40] = [
+pub(crate) const BUILT: [Form; 39] = [
     // ---- declared types
     Form::Struct,
     Form::Enum,
@@ -59,7 +59,6 @@ pub(crate) const BUILT: [Form; 40] = [
     Form::Binary,
     Form::Negative,
     Form::Not,
-    Form::Cast,
     Form::Call,
     // The closure behind it is not built, and is what is refused.
     Form::ClosureInvariant,

@@ -73,7 +73,7 @@ impl Call<'_> {
 }
 
 /// Sources and proofs, with the status and what is printed.
-const REPORTS: [(&[u8], &[u8], u8, &[u8]); 10] = [
+const REPORTS: [(&[u8], &[u8], u8, &[u8]); 9] = [
     (SOURCE, PROOFS, 0, REPORT),
     (
         WITHOUT_BOUND,
@@ -123,12 +123,6 @@ const REPORTS: [(&[u8], &[u8], u8, &[u8]); 10] = [
         0,
         b"verified up\nsummary functions 1 verified 1 obligations 3 proved 3\n",
     ),
-    (
-        b"#[ensures(result@ == x@ + y@)]\nfn sum(x: i32, y: i32) -> i64 { x as i64 + y as i64 }\n",
-        b"creusot-proofs 1\nproof 1 sum\nintro x y v w\nrange x\nrange y\nsplit\nlin 1:goal 1:2.1 1:3.1 1:1.1 1:1.2\nlin 1:goal 1:2.2 1:3.2 1:-1.1 1:-1.2\nend\nproof 2 sum\nintro x y v w r\nrewrite < 1.1\nrewrite < 1.2\nhyp 1.3\nend\n",
-        0,
-        b"verified sum\nsummary functions 1 verified 1 obligations 2 proved 2\n",
-    ),
 ];
 
 #[test]
@@ -141,7 +135,7 @@ fn reports_are_byte_for_byte(rt: HostRuntime) -> Result<(), Fail> {
 }
 
 /// Sources, and what is printed of their refusal.
-const REFUSED: [(&[u8], &[u8]); 18] = [
+const REFUSED: [(&[u8], &[u8]); 17] = [
     // The words in their order, and tokens.
     (b"fn f(x: f64) -> i64 { x }", b"error E20 8..11 line 1\n"),
     (
@@ -167,10 +161,6 @@ const REFUSED: [(&[u8], &[u8]); 18] = [
     (b"fn f(x: i32) -> bool { x }", b"error E07 23..24 line 1\n"),
     (b"fn f() -> u8 { 256 }", b"error E07 15..18 line 1\n"),
     (b"fn f(x: u8) -> u8 { -x }", b"error E07 21..22 line 1\n"),
-    (
-        b"fn f(x: i32) -> u8 { x as u8 }",
-        b"error E07 21..28 line 1\n",
-    ),
     (b"fn f(x: i32) { x = 1; }", b"error E22 15..16 line 1\n"),
     // Formulas, behind the types of all functions.
     (
@@ -197,7 +187,7 @@ fn sources_are_refused_where_they_fail(rt: HostRuntime) -> Result<(), Fail> {
 }
 
 /// Sources with forms that are not built, and what is printed of them.
-const NOT_BUILT: [(&[u8], &[u8]); 22] = [
+const NOT_BUILT: [(&[u8], &[u8]); 23] = [
     (b"trait T {}", b"error E20 0..5 line 1\n"),
     (b"fn f<T>() {}", b"error E20 4..5 line 1\n"),
     (b"fn f(x: &u32) {}", b"error E20 8..9 line 1\n"),
@@ -205,6 +195,10 @@ const NOT_BUILT: [(&[u8], &[u8]); 22] = [
     (b"fn f() { loop {} }", b"error E20 9..13 line 1\n"),
     (b"fn f(x: u32) { x.y; }", b"error E20 15..16 line 1\n"),
     (b"fn f() { let (a, b) = 1; }", b"error E20 13..14 line 1\n"),
+    (
+        b"fn f(x: i32) -> u8 { x as u8 }",
+        b"error E20 21..22 line 1\n",
+    ),
     (b"fn f() { return }", b"error E20 9..15 line 1\n"),
     // Behind what is passed over, and attributes at their `#`.
     (
