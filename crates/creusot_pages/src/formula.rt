@@ -1,5 +1,5 @@
 //! Terms as contracts spell them, with the names of variables.
-use logic_term::{Sort, Term, TermBinary, TermForm, TermUnary, TyNode};
+use logic_term::{Quantifier, Sort, Term, TermBinary, TermForm, TermUnary, TyNode};
 use source_kinds::{ArithOp, IntKind};
 use std::alloc::AllocError;
 use text_core::{Name, Names};
@@ -27,14 +27,6 @@ pub(crate) fn sort_text(sort: &Sort) -> &'static str {
         TyNode::MathInt => "Int",
         TyNode::Tuple(parts) if parts.is_empty() => "()",
         _ => "_",
-    }
-}
-
-fn unary_text(op: TermUnary) -> (&'static str, &'static str) {
-    match op {
-        TermUnary::Model => ("", "@"),
-        TermUnary::Negative => ("-", ""),
-        TermUnary::Not => ("!", ""),
     }
 }
 
@@ -84,12 +76,14 @@ fn push_binary(
     push_part(out, names, b)
 }
 
-/// The formula, in parentheses where it has an operator between two parts, or a quantifier.
+/// The formula, in parentheses where it has an operator between two parts, an `if` or a quantifier.
 #[cycle(formula)]
 fn push_part(out: &mut String, names: &Names, t: &Term) -> Result<(), AllocError> {
     if !matches!(
         t.form(),
-        TermForm::Binary(_, _, _) | TermForm::Forall(_, _, _)
+        TermForm::Binary(_, _, _)
+            | TermForm::Choice(_, _, _)
+            | TermForm::Quantified(_, _, _, _)
     ) {
         return push_formula(out, names, t);
     }
@@ -100,25 +94,55 @@ fn push_part(out: &mut String, names: &Names, t: &Term) -> Result<(), AllocError
 
 #[cycle(formula)]
 fn push_unary(out: &mut String, names: &Names, op: TermUnary, a: &Term) -> Result<(), AllocError> {
-    let (before, behind) = unary_text(op);
-    out.push_str(before)?;
+    match op {
+        TermUnary::Negative => out.push('-')?,
+        TermUnary::Not => out.push('!')?,
+        TermUnary::Model | TermUnary::Field(_) => {}
+    }
     push_part(out, names, a)?;
-    out.push_str(behind)
+    match op {
+        TermUnary::Model => out.push('@'),
+        TermUnary::Field(number) => write!(out, ".{number}"),
+        TermUnary::Negative | TermUnary::Not => Ok(()),
+    }
 }
 
-/// `forall<x: S> A`
+/// `forall<x: S> A` or `exists<x: S> A`
 #[cycle(formula)]
-fn push_forall(
+fn push_quantified(
     out: &mut String,
     names: &Names,
+    word: Quantifier,
     name: Name,
     sort: &Sort,
     body: &Term,
 ) -> Result<(), AllocError> {
     let text = names.text(name).unwrap_or("_");
     let sort = sort_text(sort);
-    write!(out, "forall<{text}: {sort}> ")?;
+    let word = match word {
+        Quantifier::Forall => "forall",
+        Quantifier::Exists => "exists",
+    };
+    write!(out, "{word}<{text}: {sort}> ")?;
     push_part(out, names, body)
+}
+
+/// `if A { B } else { C }`
+#[cycle(formula)]
+fn push_choice(
+    out: &mut String,
+    names: &Names,
+    condition: &Term,
+    first: &Term,
+    second: &Term,
+) -> Result<(), AllocError> {
+    out.push_str("if ")?;
+    push_formula(out, names, condition)?;
+    out.push_str(" { ")?;
+    push_formula(out, names, first)?;
+    out.push_str(" } else { ")?;
+    push_formula(out, names, second)?;
+    out.push_str(" }")
 }
 
 /// The formula, each operand in parentheses that has an operator between two parts.
@@ -131,6 +155,11 @@ pub(crate) fn push_formula(out: &mut String, names: &Names, t: &Term) -> Result<
         TermForm::Make(_, parts) => push_parts(out, names, parts),
         TermForm::Unary(op, a) => push_unary(out, names, op, a),
         TermForm::Binary(op, a, b) => push_binary(out, names, op, a, b),
-        TermForm::Forall(name, sort, body) => push_forall(out, names, name, sort, body),
+        TermForm::Choice(condition, first, second) => {
+            push_choice(out, names, condition, first, second)
+        }
+        TermForm::Quantified(word, name, sort, body) => {
+            push_quantified(out, names, word, name, sort, body)
+        }
     }
 }

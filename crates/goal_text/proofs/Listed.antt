@@ -54,6 +54,22 @@ pub texts_mapped : (w : Spelling) (bound : Around) (ts : List Term) → texts_in
 texts_mapped w bound [] = refl
 texts_mapped w bound (t ∷ ts) = ap (λ l. text_in w bound t ∷ l) (texts_mapped w bound ts)
 
+two_pushed : {A : Type 0} (old p q : List A) (x y : A) → p ≡ old ++ x ∷ [] → q ≡ p ++ y ∷ [] → reverse q ≡ y ∷ x ∷ reverse old
+two_pushed old p q x y a b = ap reverse b ∙ reverse-append p (y ∷ []) ∙ ap (λ l. y ∷ l) (ap reverse a ∙ reverse-append old (x ∷ []))
+
+-- a term between a text that was printed and a task
+pub unary_said : (w : Spelling) (bs : Around) (t : Bor Term) (after : Task) (old p q : List Task) (out mid before U : List ℕ) → p ≡ old ++ after ∷ [] → q ≡ p ++ task.Term t ∷ [] → mid ≡ out ++ before
+    → U ≡ before ++ (text_in w bs t.now ++ left_text w bs (after ∷ [])) → left_text w bs (after ∷ reverse old) ≡ left_text w bs (after ∷ []) ++ left_text w bs (reverse old)
+    → mid ++ left_text w bs (reverse q) ≡ out ++ (U ++ left_text w bs (reverse old))
+unary_said w bs t after old p q out mid before U a b m u alone =
+    ap (λ ts. mid ++ left_text w bs ts) (two_pushed old p q after (task.Term t) a b)
+    ∙ ap (λ l. mid ++ (text_in w bs t.now ++ l)) alone
+    ∙ regrouped out mid before (text_in w bs t.now) (left_text w bs (after ∷ [])) (left_text w bs (reverse old)) m
+    ∙ ap (λ l. out ++ (l ++ left_text w bs (reverse old))) (sym u)
+  where
+    regrouped : (out mid before x y z : List ℕ) → mid ≡ out ++ before → mid ++ (x ++ (y ++ z)) ≡ out ++ ((before ++ (x ++ y)) ++ z)
+    regrouped out mid before x y z m = ap (λ l. l ++ (x ++ (y ++ z))) m ∙ append_assoc out before (x ++ (y ++ z)) ∙ ap (λ l. out ++ l) (sym (append_assoc before (x ++ y) z ∙ ap (λ l. before ++ l) (append_assoc x y z)))
+
 three_pushed : {A : Type 0} (old p q r : List A) (x y z : A) → p ≡ old ++ x ∷ [] → q ≡ p ++ y ∷ [] → r ≡ q ++ z ∷ [] → reverse r ≡ z ∷ y ∷ x ∷ reverse old
 three_pushed old p q r x y z a b c =
     ap reverse c ∙ reverse-append q (z ∷ []) ∙ ap (λ l. z ∷ l) (ap reverse b ∙ reverse-append p (y ∷ []) ∙ ap (λ l. y ∷ l) (ap reverse a ∙ reverse-append old (x ∷ [])))

@@ -11,7 +11,7 @@ use Rattle.logic_term.specs.declared.kinds.Ctor.{Ctor}
 use Rattle.logic_term.specs.declared.kinds.Ctor.TheVariants.{Tuple, Variant, Closure}
 use Rattle.logic_term.specs.declared.declaration.FieldDecl.{FieldDecl}
 use Rattle.logic_term.specs.Ty.{Ty}
-use Rattle.logic_term.specs.Term.{Operator, modeled, negated, denied, arith, less, at_most, equal, both, either, implied, made, Quantifier, every, some, Term, Terms, var, lit, truth, apply, bind, no_terms, and_term}
+use Rattle.logic_term.specs.Term.{Operator, modeled, negated, denied, field, arith, less, at_most, equal, both, either, implied, choice, made, Quantifier, every, some, Term, Terms, var, lit, truth, apply, bind, no_terms, and_term}
 use Rattle.goal_text.specs.Spelling.{Spelling, path_text, fields_at, is_numbered, labelled, opening_text, closing_text}
 use Rattle.goal_text.specs.SortText.{commas, numbered, sort_text, suffix, tuple_text}
 
@@ -56,11 +56,17 @@ made_text w Tuple parts = tuple_text parts
 made_text w (Variant declared variant) parts = path_text w declared.0 variant ++ fields_text w (fields_at w declared.0 variant) parts
 made_text w (Closure number) parts = codes "closure(" ++ commas parts ++ codes ")"
 
--- an operator at the texts of its parts: of one part for the first three, and of two for those that stand between
+-- (if A { B } else { C })
+abbrev pub choice_text : List (List ℕ) → List ℕ
+choice_text (a ∷ b ∷ c ∷ []) = codes "(if " ++ a ++ codes " { " ++ b ++ codes " } else { " ++ c ++ codes " })"
+choice_text _ = []
+
+-- an operator at the texts of its parts: of one part for the first four, and of two for those that stand between
 abbrev pub applied_text : Spelling → Operator → List (List ℕ) → List ℕ
 applied_text w modeled parts = commas parts ++ codes "@"
 applied_text w negated parts = codes "(-" ++ commas parts ++ codes ")"
 applied_text w denied parts = codes "(!" ++ commas parts ++ codes ")"
+applied_text w (field n) parts = commas parts ++ numbered (codes ".") n
 applied_text w (arith op) parts = between (arithmetic_sign op) parts
 applied_text w less parts = between (codes " < ") parts
 applied_text w at_most parts = between (codes " <= ") parts
@@ -68,6 +74,7 @@ applied_text w equal parts = between (codes " == ") parts
 applied_text w both parts = between (codes " && ") parts
 applied_text w either parts = between (codes " || ") parts
 applied_text w implied parts = between (codes " ==> ") parts
+applied_text w choice parts = choice_text parts
 applied_text w (made ctor) parts = made_text w ctor parts
 
 -- the number of the innermost binder of the name, the outermost being 1; 0 where none binds it

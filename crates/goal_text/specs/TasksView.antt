@@ -5,6 +5,7 @@ use Rattle.logic_term.specs.Term.{Term, Terms, var, lit, truth, apply, bind, no_
 use Rattle.logic_term.specs.TermView.{terms_of}
 use Rattle.logic_term.specs.Ty.{Ty}
 use Rattle.goal_text.specs.GoalText.{text_in}
+use Rattle.goal_text.specs.SortText.{numbered}
 use Rattle.goal_text.specs.Spelling.{Spelling, labelled}
 use Rattle.goal_text.specs.declared.term.Task.{Task}
 use Rattle.goal_text.specs.declared.term.Task.TheVariants as task
@@ -27,6 +28,7 @@ abbrev pub left_text : Spelling → Around → List Task → List ℕ
 left_text w bs [] = []
 left_text w bs (task.Term t ∷ ts) = text_in w bs t.now ++ left_text w bs ts
 left_text w bs (task.Text text ∷ ts) = text.now ++ left_text w bs ts
+left_text w bs (task.Field n ∷ ts) = numbered (codes ".") n ++ left_text w bs ts
 left_text w bs (task.Others us ∷ ts) = after_commas (map (text_in w bs) us.now) ++ left_text w bs ts
 left_text w bs (task.OtherFields numbered fields us ∷ ts) = after_commas (labelled w numbered fields.now (map (text_in w bs) us.now)) ++ left_text w bs ts
 left_text w bs (task.Left ∷ ts) = left_text w (outer bs) ts
@@ -56,6 +58,7 @@ abbrev pub left_load : List Task → ℕ
 left_load [] = 0
 left_load (task.Term t ∷ ts) = load t.now + left_load ts
 left_load (task.Text text ∷ ts) = 1 + left_load ts
+left_load (task.Field n ∷ ts) = 1 + left_load ts
 left_load (task.Others us ∷ ts) = loads (terms_of us.now) + left_load ts
 left_load (task.OtherFields numbered fields us ∷ ts) = loads (terms_of us.now) + left_load ts
 left_load (task.Left ∷ ts) = 1 + left_load ts

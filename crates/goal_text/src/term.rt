@@ -1,14 +1,15 @@
 //! Terms as text.
 ghost use Rattle.std.specs.Prelude.{◌≡◌, ◌<◌, ◌≤◌, ◌+◌, [], ◌∷◌, ◌++◌, ℕ, List, codes, map, reverse, IfOk, OnOk};
 ghost use Rattle.logic_term.specs.TermView.{terms_of};
-ghost use Rattle.logic_term.specs.TermOperator.{unary_operator, binary_operator};
-ghost use Rattle.logic_term.specs.Term.{every, forall, one, two};
+ghost use Rattle.logic_term.specs.TermOperator.{unary_operator, binary_operator, quantifier};
+ghost use Rattle.logic_term.specs.Term.{bind, if_else, one, two};
 ghost use Rattle.goal_text.specs.SortText.{commas};
 ghost use Rattle.goal_text.specs.Spelling.{Spelling as Words, labelled};
 ghost use Rattle.goal_text.specs.SpellingView.{spelling_of};
 ghost use Rattle.goal_text.specs.BoundView.{bounds_of};
-ghost use Rattle.goal_text.specs.GoalText.{applied_text, binder_text, fields_text, literal_text, made_text, number_in, text_in, text_of_goal, texts_in, truth_text};
-ghost use Rattle.goal_text.specs.TasksView.{Around, after_commas, all_text, left_load, load, loads, with_text};
+ghost use Rattle.goal_text.specs.GoalText.{applied_text, binder_text, fields_text, literal_text, made_text, number_in, quantifier_word, text_in, text_of_goal, texts_in, truth_text};
+ghost use Rattle.goal_text.specs.declared.term.Task.{Task};
+ghost use Rattle.goal_text.specs.TasksView.{Around, after_commas, all_text, left_load, left_text, load, loads, with_text};
 
 use crate::piece::{binary_bytes, push_numbered, push_text, tuple_end_bytes};
 use crate::sort::{push_sort, suffix_bytes};
@@ -16,7 +17,7 @@ use crate::spelling::{
     Spelling, closing_bytes, field_at, fields_at, first_field, is_numbered, opening_bytes,
     other_fields, push_label, push_path,
 };
-use logic_term::{Ctor, FieldDecl, Sort, Term, TermBinary, TermForm, TermUnary};
+use logic_term::{Ctor, FieldDecl, Quantifier, Sort, Term, TermBinary, TermForm, TermUnary};
 use std::alloc::Global;
 use text_core::{Name, NoMemory};
 
@@ -27,7 +28,8 @@ use text_core::{Name, NoMemory};
 ///   machine integer.
 /// - A literal of a machine type ends in the type, and one of another sort does not; a negative one stands in
 ///   parentheses: `5i32`, `(-5i32)`, `5`, `(-5)`. Truth values are `true` and `false`.
-/// - A universal formula is `(forall<v1: S> A)`, where S is the sort. Its variable is `v` and one more than the number of
+/// - A part is `A.0`, by its number, and an `if` is `(if A { B } else { C })`.
+/// - A universal formula is `(forall<v1: S> A)`, where S is the sort, and an existential one `(exists<v1: S> A)`. The variable is `v` and one more than the number of
 ///   binders around it, whatever its name. Where two binders around a variable have its name, the inner one counts. A
 ///   variable that no binder around it has is `v0`; goals of programs are closed, so they have none.
 /// - A tuple is `()`, `(A,)` or `(A, B)`. A struct or a variant is `Path`, `Path(A, B)` or `Path { f: A, g: B }`, where the
@@ -60,6 +62,8 @@ pub(crate) struct Bound<'a> {
 enum Task<'a> {
     Term(&'a Term),
     Text(&'a [u8]),
+    /// The number of a part, after a point.
+    Field(u32),
     /// The terms, each after a comma.
     Others(&'a [Term]),
     /// The values of fields, each after a comma and its field; the flag says that fields are named by their numbers.
@@ -102,17 +106,28 @@ fn push_literal(alloc: Global, out: &mut Vec<u8>, number: i128, sort: &Sort) -> 
     push_text(out, suffix_bytes(sort))
 }
 
-/// What stands before the body of a universal formula.
+/// The quantifier up to the number of its variable.
+fn quantifier_bytes(word: Quantifier) -> &'static [u8]
+    ensures { result.now ≡ quantifier_word (quantifier word) }
+{
+    match word {
+        Quantifier::Forall => b"forall<v",
+        Quantifier::Exists => b"exists<v",
+    }
+}
+
+/// What stands before the body of a quantified formula.
 fn push_binder(
     alloc: Global,
     out: &mut Vec<u8>,
     spelling: &Spelling<'_>,
+    word: Quantifier,
     number: u64,
     sort: &Sort,
 ) -> Result<(), NoMemory>
-    ensures { OnOk result (out.new.items ≡ out.old.items ++ binder_text (spelling_of spelling.now) every number sort.now) }
+    ensures { OnOk result (out.new.items ≡ out.old.items ++ binder_text (spelling_of spelling.now) (quantifier word) number sort.now) }
 {
-    push_numbered(alloc, out, b"forall<v", number)?;
+    push_numbered(alloc, out, quantifier_bytes(word), number)?;
     push_text(out, b": ")?;
     push_sort(alloc, out, spelling, sort)?;
     push_text(out, b"> ")
@@ -137,6 +152,9 @@ fn push_term<'a>(
             }
             Task::Text(text) => {
                 push_text(out, text)?;
+            }
+            Task::Field(number) => {
+                push_numbered(alloc, out, b".", u64::from(number))?;
             }
             Task::Others(terms) => {
                 print_others(out, terms, &mut tasks)?;
@@ -174,13 +192,37 @@ fn print_term<'a>(
         TermForm::Make(ctor, parts) => print_made(out, spelling, ctor, parts, tasks),
         TermForm::Unary(op, t) => print_unary(out, op, t, tasks),
         TermForm::Binary(op, a, b) => print_binary(out, a, op, b, tasks),
-        TermForm::Forall(name, sort, t) => {
-            print_forall(alloc, out, spelling, name, sort, t, bound, tasks)
+        TermForm::Choice(condition, first, second) => {
+            print_choice(out, condition, first, second, tasks)
+        }
+        TermForm::Quantified(word, name, sort, t) => {
+            print_quantified(alloc, out, spelling, word, name, sort, t, bound, tasks)
         }
     }
 }
 
-/// `A@`, `(-A)` or `(!A)`
+/// `(if A { B } else { C })`
+fn print_choice<'a>(
+    out: &mut Vec<u8>,
+    condition: &'a Term,
+    first: &'a Term,
+    second: &'a Term,
+    tasks: &mut Vec<Task<'a>>,
+) -> Result<(), NoMemory>
+    ensures text { OnOk result ((w : Words) → (bs : Around) → all_text w out.new.items bs tasks.new.items ≡ with_text w out.old.items (text_in w bs (if_else condition.now first.now second.now)) bs tasks.old.items) }
+    ensures less { OnOk result (left_load (reverse tasks.new.items) ≤ 3 + load condition.now + load first.now + load second.now + left_load (reverse tasks.old.items)) }
+{
+    push_text(out, b"(if ")?;
+    tasks.push(Task::Text(b" })"))?;
+    tasks.push(Task::Term(second))?;
+    tasks.push(Task::Text(b" } else { "))?;
+    tasks.push(Task::Term(first))?;
+    tasks.push(Task::Text(b" { "))?;
+    tasks.push(Task::Term(condition))?;
+    Ok(())
+}
+
+/// `A@`, `(-A)`, `(!A)` or `A.0`
 fn print_unary<'a>(
     out: &mut Vec<u8>,
     op: TermUnary,
@@ -192,19 +234,22 @@ fn print_unary<'a>(
 {
     let (before, after) = unary_bytes(op);
     push_text(out, before)?;
-    tasks.push(Task::Text(after))?;
+    tasks.push(after)?;
     tasks.push(Task::Term(t))?;
     Ok(())
 }
 
-/// What stands before and behind the term.
-fn unary_bytes(op: TermUnary) -> (&'static [u8], &'static [u8])
-    ensures { (w : Words) → (text : List ℕ) → applied_text w (unary_operator op) (text ∷ []) ≡ result.0.now ++ text ++ result.1.now }
+/// What stands before the term, and what is to be printed behind it.
+fn unary_bytes(op: TermUnary) -> (&'static [u8], Task<'static>)
+    ensures text { (w : Words) → (bs : Around) → (text : List ℕ) → applied_text w (unary_operator op) (text ∷ []) ≡ result.0.now ++ (text ++ left_text w bs (result.1 ∷ [])) }
+    ensures less { left_load (result.1 ∷ []) ≡ 1 }
+    ensures alone { (w : Words) → (bs : Around) → (ts : List Task) → left_text w bs (result.1 ∷ ts) ≡ left_text w bs (result.1 ∷ []) ++ left_text w bs ts }
 {
     match op {
-        TermUnary::Model => (b"", b"@"),
-        TermUnary::Negative => (b"(-", b")"),
-        TermUnary::Not => (b"(!", b")"),
+        TermUnary::Model => (b"", Task::Text(b"@")),
+        TermUnary::Negative => (b"(-", Task::Text(b")")),
+        TermUnary::Not => (b"(!", Task::Text(b")")),
+        TermUnary::Field(number) => (b"", Task::Field(number)),
     }
 }
 
@@ -227,11 +272,12 @@ fn print_binary<'a>(
     Ok(())
 }
 
-/// `(forall<v1: S> A)`
-fn print_forall<'a>(
+/// `(forall<v1: S> A)` or `(exists<v1: S> A)`
+fn print_quantified<'a>(
     alloc: Global,
     out: &mut Vec<u8>,
     spelling: &Spelling<'a>,
+    word: Quantifier,
     name: Name,
     sort: &'a Sort,
     body: &'a Term,
@@ -239,12 +285,12 @@ fn print_forall<'a>(
     tasks: &mut Vec<Task<'a>>,
 ) -> Result<(), NoMemory>
     ensures text { OnOk result (all_text (spelling_of spelling.now) out.new.items (bounds_of bound.new.items) tasks.new.items
-        ≡ with_text (spelling_of spelling.now) out.old.items (text_in (spelling_of spelling.now) (bounds_of bound.old.items) (forall name sort.now body.now)) (bounds_of bound.old.items) tasks.old.items) }
+        ≡ with_text (spelling_of spelling.now) out.old.items (text_in (spelling_of spelling.now) (bounds_of bound.old.items) (bind (quantifier word) name sort.now body.now)) (bounds_of bound.old.items) tasks.old.items) }
     ensures less { OnOk result (left_load (reverse tasks.new.items) ≤ 2 + load body.now + left_load (reverse tasks.old.items)) }
 {
     bound.push(Bound { name, sort })?;
     push_text(out, b"(")?;
-    push_binder(alloc, out, spelling, bound.len() as u64, sort)?;
+    push_binder(alloc, out, spelling, word, bound.len() as u64, sort)?;
     tasks.push(Task::Text(b")"))?;
     tasks.push(Task::Left)?;
     tasks.push(Task::Term(body))?;

@@ -2,7 +2,7 @@
 use Rattle.std.proofs.Common.{◌≡◌, ◌≤◌, ◌∙◌, List, [], ◌∷◌, ◌++◌, length, Option, Err, refl, ap, sym, arith}
 use Rattle.text_core.specs.declared.name.Name.{Name}
 use Rattle.text_core.specs.declared.span.Span.{Span}
-use Rattle.logic_term.specs.Term.{Term, forall}
+use Rattle.logic_term.specs.Term.{Quantifier, Term, bind}
 use Rattle.source_trees.specs.declared.path.Segment.{Segment}
 use Rattle.source_trees.specs.declared.types.TypeArgument.{TypeArgument}
 use Rattle.source_trees.specs.declared.types.TypeArgument.TheVariants as argument
@@ -10,7 +10,7 @@ use Rattle.source_trees.specs.TypeTree.{named}
 use Rattle.source_trees.specs.TypeTreeView.{type_arguments_of}
 use Rattle.logic_elab.specs.declared.scope.Symbol.{Symbol}
 use Rattle.logic_elab.specs.Answers.{unbuilt}
-use Rattle.logic_elab.specs.Binders.{under_one, meant_under, inside, written_sort, for_all}
+use Rattle.logic_elab.specs.Binders.{under_one, meant_under, inside, written_sort, bound_all}
 
 -- a type with arguments is not built
 pub with_arguments : (s : Span) (x : Segment) (arguments : List TypeArgument) → 1 ≤ length arguments → written_sort (named s x (type_arguments_of arguments)) ≡ Err (unbuilt s)
@@ -38,6 +38,6 @@ from_outside x [] o = refl
 from_outside x (b ∷ bs) o = from_outside x bs (under_one x b o) ∙ sym (meant_inside x (b ∷ []) bs o)
 
 -- the innermost first
-pub for_all_last : (xs : List Symbol) (x : Symbol) (p : Term) → for_all (xs ++ x ∷ []) p ≡ for_all xs (forall x.name x.sort p)
-for_all_last [] x p = refl
-for_all_last (y ∷ ys) x p = ap (forall y.name y.sort) (for_all_last ys x p)
+pub bound_all_last : (q : Quantifier) (xs : List Symbol) (x : Symbol) (p : Term) → bound_all q (xs ++ x ∷ []) p ≡ bound_all q xs (bind q x.name x.sort p)
+bound_all_last q [] x p = refl
+bound_all_last q (y ∷ ys) x p = ap (bind q y.name y.sort) (bound_all_last q ys x p)

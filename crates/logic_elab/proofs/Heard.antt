@@ -10,19 +10,18 @@ use Rattle.source_kinds.specs.declared.kinds.Comparison.{Comparison}
 use Rattle.source_kinds.specs.declared.kinds.Comparison.TheVariants.{Eq, Ne, Lt, Le, Gt, Ge}
 use Rattle.source_kinds.specs.Range.{fits}
 use Rattle.source_trees.specs.declared.operator.BinaryTerm.TheVariants.{Implies, Or, And, Compare, Calculate}
-use Rattle.source_trees.specs.declared.operator.Quantifier.TheVariants.{Forall}
 use Rattle.source_trees.specs.declared.operator.UnaryTerm.TheVariants.{Neg, Not, View}
 use Rattle.source_trees.specs.declared.path.Segment.{Segment}
 use Rattle.source_trees.specs.Pterm as T
 use Rattle.source_trees.specs.Pterm.{Pterm}
 use Rattle.source_trees.specs.PtermView.{span_of}
-use Rattle.logic_term.specs.Term.{Term, var, lit, truth as truth_term, model, negative as negative_term, not as not_term, calculate, is_less, is_at_most, is_equal, and as and_term, or as or_term, implies as implies_term, forall}
+use Rattle.logic_term.specs.Term.{Term, var, lit, truth as truth_term, model, negative as negative_term, not as not_term, calculate, is_less, is_at_most, is_equal, and as and_term, or as or_term, implies as implies_term, Quantifier, bind, if_else}
 use Rattle.logic_term.specs.Ty.{Ty, int, bool, math_int}
 use Rattle.logic_elab.specs.declared.scope.Symbol.{Symbol}
 use Rattle.logic_elab.specs.declared.sorted.SortedTerm.{SortedTerm}
 use Rattle.logic_elab.specs.Answers.{◌>>=◌, mismatch, pair}
-use Rattle.logic_elab.specs.Binders.{meant_under, inside, symbols_of, for_all}
-use Rattle.logic_elab.specs.Elaborated.{sorted, literal, name_alone, symbol_or, name_term, named_term, answer_or, answer_term, model_of_sort, model_of, formula, number, ordered, is_ordering, ordered_at, compared, connected, elaborated_under}
+use Rattle.logic_elab.specs.Binders.{meant_under, inside, symbols_of, bound_all}
+use Rattle.logic_elab.specs.Elaborated.{sorted, literal, name_alone, symbol_or, name_term, named_term, answer_or, answer_term, model_of_sort, model_of, formula, number, ordered, is_ordering, ordered_at, compared, connected, quantifier_of, chosen, elaborated_under}
 use Rattle.logic_elab.specs.Scope.{Scope}
 use Rattle.logic_elab.specs.Sorts.{same_ty, is_math_int, is_bool}
 use Rattle.logic_elab.proofs.Accepted.{bound, held, yes, same_ok}
@@ -45,6 +44,7 @@ pub record IsKept (P : Ty → Term → Type 0) (Γ : Scope) (bs : List Symbol) :
   pub conjunctions : (t u : Term) → P bool t → P bool u → P bool (and_term t u)
   pub disjunctions : (t u : Term) → P bool t → P bool u → P bool (or_term t u)
   pub implications : (t u : Term) → P bool t → P bool u → P bool (implies_term t u)
+  pub choices : (s : Ty) (c t u : Term) → P bool c → P s t → P s u → P s (if_else c t u)
 
 bool_sort : (t : Ty) → is_bool t ≡ true → t ≡ bool
 bool_sort bool e = refl
@@ -135,6 +135,13 @@ module _ (P : Ty → Term → Type 0) (Γ : Scope) (bs : List Symbol) (kept : Is
       let q = held (same_ty c.sort a.sort) (if is_ordering op then ordered_at a.sort op s a.term c.term else Ok (sorted bool (ordered op a.term c.term))) (mismatch s') r p in
       compared_at (is_ordering op) op s a.sort a.term c.term r refl h (subst (λ u. P u c.term) (equal_types c.sort a.sort q.0) k) q.1
 
+  -- an `if` of two sides of one sort
+  chosen_holds : (s : Span) (c : Term) (a b r : SortedTerm) → P bool c → Of a → Of b → chosen s c a b ≡ Ok r → Of r
+  unfolding chosen
+  chosen_holds s c a b r f h k p =
+      let q = held (same_ty b.sort a.sort) (Ok (sorted a.sort (if_else c a.term b.term))) (mismatch s) r p in
+      given a.sort (if_else c a.term b.term) r (kept.choices a.sort c a.term b.term f h (subst (λ u. P u b.term) (equal_types b.sort a.sort q.0) k)) q.1
+
   -- a connective of two formulas
   connected_holds : (op : Term → Term → Term) (m n : Result Term SourceError) (r : SortedTerm) → ((t u : Term) → P bool t → P bool u → P bool (op t u))
       → ((u : Term) → m ≡ Ok u → P bool u) → ((u : Term) → n ≡ Ok u → P bool u) → (pair m n >>= connected op) ≡ Ok r → Of r
@@ -150,14 +157,15 @@ module _ (P : Ty → Term → Type 0) (Γ : Scope) (bs : List Symbol) (kept : Is
 -- ---- binders
 
 -- what is kept by each binder is kept by all of a quantifier
-module _ (P : List Symbol → Ty → Term → Type 0) (binds : (bs : List Symbol) (b : Symbol) (t : Term) → P (b ∷ bs) bool t → P bs bool (forall b.name b.sort t)) where
-  for_all_holds : (bs xs : List Symbol) (t : Term) → P (inside bs xs) bool t → P bs bool (for_all xs t)
-  for_all_holds bs [] t h = h
-  for_all_holds bs (x ∷ xs) t h = binds bs x (for_all xs t) (for_all_holds (x ∷ bs) xs t h)
+module _ (P : List Symbol → Ty → Term → Type 0) (q : Quantifier) (binds : (bs : List Symbol) (b : Symbol) (t : Term) → P (b ∷ bs) bool t → P bs bool (bind q b.name b.sort t)) where
+  bound_all_holds : (bs xs : List Symbol) (t : Term) → P (inside bs xs) bool t → P bs bool (bound_all q xs t)
+  bound_all_holds bs [] t h = h
+  bound_all_holds bs (x ∷ xs) t h = binds bs x (bound_all q xs t) (bound_all_holds (x ∷ bs) xs t h)
 
 -- ---- terms
 
-module _ (P : List Symbol → Ty → Term → Type 0) (Γ : Scope) (kept : (bs : List Symbol) → IsKept (P bs) Γ bs) (binds : (bs : List Symbol) (b : Symbol) (t : Term) → P (b ∷ bs) bool t → P bs bool (forall b.name b.sort t)) where
+module _ (P : List Symbol → Ty → Term → Type 0) (Γ : Scope) (kept : (bs : List Symbol) → IsKept (P bs) Γ bs)
+    (binds : (q : Quantifier) (bs : List Symbol) (b : Symbol) (t : Term) → P (b ∷ bs) bool t → P bs bool (bind q b.name b.sort t)) where
   pub holds_of_each : (bs : List Symbol) (t : Pterm) (r : SortedTerm) → elaborated_under Γ bs t ≡ Ok r → P bs r.sort r.term
   holds_of_each bs (T.integer s z k) r p = literal_holds (P bs) Γ bs (kept bs) s z k r p
   holds_of_each bs (T.truth s b) r p = given (P bs) Γ bs (kept bs) bool (truth_term b) r ((kept bs).truths b) p
@@ -194,11 +202,17 @@ module _ (P : List Symbol → Ty → Term → Type 0) (Γ : Scope) (kept : (bs :
   holds_of_each bs (T.binary s Implies t u) r p =
       connected_holds (P bs) Γ bs (kept bs) implies_term (elaborated_under Γ bs t >>= formula (span_of t)) (elaborated_under Γ bs u >>= formula (span_of u)) r (kept bs).implications
       (λ v q. asserted_by (P bs) Γ bs (kept bs) t (elaborated_under Γ bs t) v (λ a h. holds_of_each bs t a h) q) (λ v q. asserted_by (P bs) Γ bs (kept bs) u (elaborated_under Γ bs u) v (λ a h. holds_of_each bs u a h) q) p
-  holds_of_each bs (T.quantified s Forall xs t) r p =
+  holds_of_each bs (T.choice s c t u) r p =
+      let a = bound (elaborated_under Γ bs c) _ r p in
+      let f = bound (formula (span_of c) a.0) _ r a.2 in
+      let x = bound (elaborated_under Γ bs t) _ r f.2 in
+      let y = bound (elaborated_under Γ bs u) _ r x.2 in
+      chosen_holds (P bs) Γ bs (kept bs) (span_of u) f.0 x.0 y.0 r (formula_holds (P bs) Γ bs (kept bs) (span_of c) a.0 f.0 (holds_of_each bs c a.0 a.1) f.1) (holds_of_each bs t x.0 x.1) (holds_of_each bs u y.0 y.1) y.2
+  holds_of_each bs (T.quantified s q xs t) r p =
       let ys = bound (symbols_of xs) _ r p in
       let a = bound (elaborated_under Γ (inside bs ys.0) t) _ r ys.2 in
       let f = bound (formula (span_of t) a.0) _ r a.2 in
       let under = inside bs ys.0 in
-      given (P bs) Γ bs (kept bs) bool (for_all ys.0 f.0) r
-      (for_all_holds P binds bs ys.0 f.0 (formula_holds (P under) Γ under (kept under) (span_of t) a.0 f.0 (holds_of_each under t a.0 a.1) f.1)) f.2
+      given (P bs) Γ bs (kept bs) bool (bound_all (quantifier_of q) ys.0 f.0) r
+      (bound_all_holds P (quantifier_of q) (binds (quantifier_of q)) bs ys.0 f.0 (formula_holds (P under) Γ under (kept under) (span_of t) a.0 f.0 (holds_of_each under t a.0 a.1) f.1)) f.2
   holds_of_each bs t r p = absurd (cc)

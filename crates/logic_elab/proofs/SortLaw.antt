@@ -5,9 +5,9 @@ use Rattle.text_core.specs.declared.name.Name.{Name}
 use Rattle.logic_term.specs.Free.{free}
 use Rattle.logic_term.specs.Sorted.{Sorted, OperatorSort, one_ty, two_tys, with_sort}
 use Rattle.logic_term.specs.Sorted as sorts
-use Rattle.logic_term.specs.Term.{Term, Operator, var, one, two, modeled, negated, denied, arith as by_op, less, at_most, equal, both, either, implied, forall}
+use Rattle.logic_term.specs.Term.{Term, Operator, var, one, two, modeled, negated, denied, arith as by_op, less, at_most, equal, both, either, implied, Quantifier, bind, choice, if_else}
 use Rattle.logic_term.specs.Theory.{Theory}
-use Rattle.logic_term.specs.Ty.{Ty, int, bool, math_int}
+use Rattle.logic_term.specs.Ty.{Ty, int, bool, math_int, and_ty}
 use Rattle.logic_term.proofs.FreeLaw.{same_test, same_name}
 use Rattle.logic_elab.specs.declared.scope.Symbol.{Symbol}
 use Rattle.logic_elab.specs.Binders.{apart, under_one, meant_under}
@@ -80,6 +80,9 @@ module _ (Θ : Theory) (Δ : sorts.Scope) where
   two_sorted : (op : Operator) (r s : Ty) (t u : Term) → OperatorSort Θ op (two_tys r r) s → Sorted Θ Δ t r → Sorted Θ Δ u r → Sorted Θ Δ (two op t u) s
   two_sorted op r s t u o h k = (two_tys r r, o, (r, one_ty r, refl, h, (r, _, refl, k, refl)))
 
+  choice_sorted : (s : Ty) (c t u : Term) → Sorted Θ Δ c bool → Sorted Θ Δ t s → Sorted Θ Δ u s → Sorted Θ Δ (if_else c t u) s
+  choice_sorted s c t u f h k = (and_ty bool (two_tys s s), refl, (bool, two_tys s s, refl, f, (s, one_ty s, refl, h, (s, _, refl, k, refl))))
+
 sorts_are_kept : (Θ : Theory) (E : sorts.Scope) (Γ : Scope) → GivesSorts E Γ → (bs : List Symbol) → IsKept (λ s t. Sorted Θ (with_sorts E bs) t s) Γ bs
 sorts_are_kept Θ E Γ gives bs =
     let Δ = with_sorts E bs in
@@ -99,10 +102,11 @@ sorts_are_kept Θ E Γ gives bs =
       conjunctions = λ t u h k. two_sorted Θ Δ both bool bool t u (refl, refl) h k;
       disjunctions = λ t u h k. two_sorted Θ Δ either bool bool t u (refl, refl) h k;
       implications = λ t u h k. two_sorted Θ Δ implied bool bool t u (refl, refl) h k;
+      choices = λ s c t u f h k. choice_sorted Θ Δ s c t u f h k;
     }
 
 pub terms_are_sorted : ElaboratedTermsAreSorted
-terms_are_sorted Θ Δ Γ gives t a p = holds_of_each (λ bs s u. Sorted Θ (with_sorts Δ bs) u s) Γ (sorts_are_kept Θ Δ Γ gives) (λ bs b u h. (refl, h)) [] t a p
+terms_are_sorted Θ Δ Γ gives t a p = holds_of_each (λ bs s u. Sorted Θ (with_sorts Δ bs) u s) Γ (sorts_are_kept Θ Δ Γ gives) (λ q bs b u h. (refl, h)) [] t a p
 
 -- ---- free names
 
@@ -114,6 +118,10 @@ in_two : (a b : Bool) → (a || (b || false)) ≡ true → (a ≡ true) ⊎ (b �
 in_two true b p = inl refl
 in_two false true p = inr refl
 in_two false false p = inr p
+
+in_three : (a b c : Bool) → (a || (b || (c || false))) ≡ true → (a ≡ true) ⊎ ((b ≡ true) ⊎ (c ≡ true))
+in_three true b c p = inl refl
+in_three false b c p = inr (in_two b c p)
 
 module _ (Q : Name → Type 0) where
   -- each free name is one of Q's
@@ -131,6 +139,9 @@ module _ (Q : Name → Type 0) where
 
   only_two : (op : Operator) (t u : Term) → Only t → Only u → Only (two op t u)
   only_two op t u h k x p = elim (in_two (free x t) (free x u) p) as (λ _. Q x) [ inl a ↦ h x a | inr b ↦ k x b ]
+
+  only_choice : (c t u : Term) → Only c → Only t → Only u → Only (if_else c t u)
+  only_choice c t u f h k x p = elim (in_three (free x c) (free x t) (free x u) p) as (λ _. Q x) [ inl a ↦ f x a | inr b ↦ elim b as (λ _. Q x) [ inl d ↦ h x d | inr d ↦ k x d ] ]
 
 -- the names that are bound, and those that the scope gives
 abbrev Spoken : Scope → List Symbol → Name → Type 0
@@ -152,12 +163,12 @@ both_hold true b e = absurd (true≢false (sym e))
 both_hold false b e = (refl, e)
 
 -- what is bound is not free outside
-bound_apart : (Γ : Scope) (bs : List Symbol) (b : Symbol) (t : Term) → Only (Spoken Γ (b ∷ bs)) t → Only (Spoken Γ bs) (forall b.name b.sort t)
-bound_apart Γ bs b t h x p =
+bound_apart : (Γ : Scope) (q : Quantifier) (bs : List Symbol) (b : Symbol) (t : Term) → Only (Spoken Γ (b ∷ bs)) t → Only (Spoken Γ bs) (bind q b.name b.sort t)
+bound_apart Γ q bs b t h x p =
     let f = both_hold (x.0 == b.name.0) (free x t) p in
     elim (h x f.1) as (λ _. Spoken Γ bs x) [
-      | inl q ↦ absurd (true≢false (sym (ap (λ (y : Name). y.0 == b.name.0) q ∙ same_self b.name.0) ∙ f.0))
-      | inr q ↦ q
+      | inl e ↦ absurd (true≢false (sym (ap (λ (y : Name). y.0 == b.name.0) e ∙ same_self b.name.0) ∙ f.0))
+      | inr s ↦ s
     ]
 
 names_are_kept : (Γ : Scope) (bs : List Symbol) → IsKept (λ s t. Only (Spoken Γ bs) t) Γ bs
@@ -180,6 +191,7 @@ names_are_kept Γ bs =
       conjunctions = λ t u h k. only_two Q both t u h k;
       disjunctions = λ t u h k. only_two Q either t u h k;
       implications = λ t u h k. only_two Q implied t u h k;
+      choices = λ s c t u f h k. only_choice Q c t u f h k;
     }
 
 pub terms_speak_of_their_scope : ElaboratedTermsSpeakOfTheirScope

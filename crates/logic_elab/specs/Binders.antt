@@ -5,7 +5,7 @@ use Rattle.text_core.specs.declared.name.Name.{Name}
 use Rattle.text_core.specs.declared.refusal.Code.TheVariants.{E06}
 use Rattle.text_core.specs.declared.refusal.SourceError.{SourceError}
 use Rattle.text_core.specs.declared.span.Span.{Span}
-use Rattle.logic_term.specs.Term.{Term, forall}
+use Rattle.logic_term.specs.Term.{Quantifier, Term, bind}
 use Rattle.logic_term.specs.Ty.{Ty, int, bool, math_int}
 use Rattle.rs_types.specs.declared.written.TypeName.{TypeName}
 use Rattle.rs_types.specs.declared.written.TypeName.TheVariants as name
@@ -80,7 +80,7 @@ symbols_after xs (b ∷ bs) = do
 abbrev pub symbols_of : List Binder → Result (List Symbol) SourceError
 symbols_of bs = symbols_after [] bs
 
--- the formula for all values of these
-abbrev pub for_all : List Symbol → Term → Term
-for_all [] p = p
-for_all (x ∷ xs) p = forall x.name x.sort (for_all xs p)
+-- the formula over values of these: for all of them, or for some
+abbrev pub bound_all : Quantifier → List Symbol → Term → Term
+bound_all q [] p = p
+bound_all q (x ∷ xs) p = bind q x.name x.sort (bound_all q xs p)

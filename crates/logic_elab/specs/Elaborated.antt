@@ -6,12 +6,13 @@ use Rattle.text_core.specs.declared.refusal.SourceError.{SourceError}
 use Rattle.text_core.specs.declared.span.Span.{Span}
 use Rattle.source_kinds.specs.declared.kinds.IntKind.{IntKind}
 use Rattle.source_kinds.specs.Range.{fits}
-use Rattle.logic_term.specs.Term.{Term, var, lit, truth as truth_term, model, negative as negative_term, not as not_term, calculate, is_less, is_at_most, is_equal, and as and_term, or as or_term, implies as implies_term}
+use Rattle.logic_term.specs.Term.{Term, var, lit, truth as truth_term, model, negative as negative_term, not as not_term, calculate, is_less, is_at_most, is_equal, and as and_term, or as or_term, implies as implies_term, Quantifier, every, some, if_else}
 use Rattle.logic_term.specs.Ty.{Ty, int, bool, math_int}
 use Rattle.source_kinds.specs.declared.kinds.Comparison.{Comparison}
 use Rattle.source_kinds.specs.declared.kinds.Comparison.TheVariants.{Eq, Ne, Lt, Le, Gt, Ge}
 use Rattle.source_trees.specs.declared.operator.BinaryTerm.TheVariants.{Implies, Or, And, Compare, Calculate}
-use Rattle.source_trees.specs.declared.operator.Quantifier.TheVariants.{Forall}
+use Rattle.source_trees.specs.declared.operator.Quantifier.{Quantifier as Word}
+use Rattle.source_trees.specs.declared.operator.Quantifier.TheVariants.{Forall, Exists}
 use Rattle.source_trees.specs.declared.operator.UnaryTerm.TheVariants.{Neg, Not, View}
 use Rattle.source_trees.specs.declared.path.Segment.{Segment}
 use Rattle.source_trees.specs.Pterm as T
@@ -19,7 +20,7 @@ use Rattle.source_trees.specs.Pterm.{Pterm}
 use Rattle.source_trees.specs.PtermView.{span_of}
 use Rattle.logic_elab.specs.declared.sorted.SortedTerm.{SortedTerm}
 use Rattle.logic_elab.specs.Answers.{◌>>=◌, unknown_name, mismatch, unbuilt, wanted, pair}
-use Rattle.logic_elab.specs.Binders.{meant_under, inside, symbols_of, for_all}
+use Rattle.logic_elab.specs.Binders.{meant_under, inside, symbols_of, bound_all}
 use Rattle.logic_elab.specs.Scope.{Scope}
 use Rattle.logic_elab.specs.Sorts.{same_ty, is_math_int, is_bool}
 use Rattle.logic_elab.specs.declared.scope.Symbol.{Symbol}
@@ -105,6 +106,14 @@ compared op s r a b =
 abbrev pub connected : (Term → Term → Term) → Term × Term → Result SortedTerm SourceError
 connected op p = Ok (sorted bool (op p.0 p.1))
 
+abbrev pub quantifier_of : Word → Quantifier
+quantifier_of Forall = every
+quantifier_of Exists = some
+
+-- `if` of a condition and two sides of one sort; the span is that of the second
+unfoldable pub chosen : Span → Term → SortedTerm → SortedTerm → Result SortedTerm SourceError
+chosen s p a b = wanted (same_ty b.sort a.sort) s (sorted a.sort (if_else p a.term b.term))
+
 -- the term over what its names mean; what has no row is not built
 abbrev pub elaborated_under : Scope → List Symbol → Pterm → Result SortedTerm SourceError
 elaborated_under Γ bs (T.integer s z k) = literal s z k
@@ -135,11 +144,17 @@ elaborated_under Γ bs (T.binary s (Compare op) t u) = do
 elaborated_under Γ bs (T.binary s And t u) = pair (elaborated_under Γ bs t >>= formula (span_of t)) (elaborated_under Γ bs u >>= formula (span_of u)) >>= connected and_term
 elaborated_under Γ bs (T.binary s Or t u) = pair (elaborated_under Γ bs t >>= formula (span_of t)) (elaborated_under Γ bs u >>= formula (span_of u)) >>= connected or_term
 elaborated_under Γ bs (T.binary s Implies t u) = pair (elaborated_under Γ bs t >>= formula (span_of t)) (elaborated_under Γ bs u >>= formula (span_of u)) >>= connected implies_term
-elaborated_under Γ bs (T.quantified s Forall xs t) = do
+elaborated_under Γ bs (T.choice s c t u) = do
+  a ← elaborated_under Γ bs c
+  p ← formula (span_of c) a
+  x ← elaborated_under Γ bs t
+  y ← elaborated_under Γ bs u
+  chosen (span_of u) p x y
+elaborated_under Γ bs (T.quantified s q xs t) = do
   ys ← symbols_of xs
   a ← elaborated_under Γ (inside bs ys) t
   p ← formula (span_of t) a
-  Ok (sorted bool (for_all ys p))
+  Ok (sorted bool (bound_all (quantifier_of q) ys p))
 elaborated_under Γ bs t = Err (unbuilt (span_of t))
 
 -- the term where no quantifier stands around it

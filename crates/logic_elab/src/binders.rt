@@ -1,11 +1,12 @@
 //! What quantifiers bind. The code has the bound names around a term with the outermost first.
 ghost use Rattle.std.specs.Prelude.{◌≡◌, ◌++◌, [], IfOk};
 ghost use Rattle.logic_elab.specs.Answers.{Answers};
-ghost use Rattle.logic_elab.specs.Binders.{apart, under_one, meant_under, inside, sort_of_word, written_sort, is_bound, symbol_after, symbols_of, for_all};
+ghost use Rattle.logic_elab.specs.Binders.{apart, under_one, meant_under, inside, sort_of_word, written_sort, is_bound, symbol_after, symbols_of, bound_all};
+ghost use Rattle.logic_term.specs.TermOperator.{quantifier};
 
 use crate::refusal::{double_name, unbuilt};
 use crate::scope::Symbol;
-use logic_term::{Term, Ty};
+use logic_term::{Quantifier, Term, Ty};
 use rs_types::{TypeName, word_of};
 use source_trees::{Binder, TypeNode, TypeTree};
 use std::alloc::Global;
@@ -161,19 +162,20 @@ pub(crate) fn symbols_of(alloc: Global, binders: &[Binder]) -> Result<Items<Symb
     Ok(symbols)
 }
 
-/// The formula for all values of these.
-#[tactic(auto, using(crate::proofs::Binding::for_all_last))]
-pub(crate) fn for_all(
+/// The formula over values of these: for all of them, or for some.
+#[tactic(auto, using(crate::proofs::Binding::bound_all_last))]
+pub(crate) fn bound_all(
     alloc: Global,
+    word: Quantifier,
     mut symbols: Items<Symbol>,
     body: Term,
 ) -> Result<Term, NoMemory>
-    ensures { IfOk result (λ t. t ≡ for_all symbols body) }
+    ensures { IfOk result (λ t. t ≡ bound_all (quantifier word) symbols body) }
 {
     let mut formula = body;
     while let Some(symbol) = symbols.pop() {
         let Symbol { name, sort } = symbol;
-        formula = Term::forall(alloc, name, sort, formula)?;
+        formula = Term::quantified(alloc, word, name, sort, formula)?;
     }
     Ok(formula)
 }

@@ -2,21 +2,21 @@ ghost use Rattle.std.specs.Prelude.{◌≡◌, false, [], IfOk};
 ghost use Rattle.text_core.specs.declared.span.Span.{Span};
 ghost use Rattle.logic_term.specs.Term.{model, truth};
 ghost use Rattle.logic_term.specs.Ty.{bool, math_int};
-ghost use Rattle.source_trees.specs.declared.operator.Quantifier.TheVariants.{Forall};
-ghost use Rattle.source_trees.specs.Pterm.{quantified};
+ghost use Rattle.logic_term.specs.TermOperator.{quantifier};
+ghost use Rattle.source_trees.specs.Pterm.{choice, quantified};
 ghost use Rattle.source_trees.specs.PtermView.{span_of};
 ghost use Rattle.logic_elab.specs.Answers.{Answers};
 ghost use Rattle.logic_elab.specs.Binders.{inside};
 ghost use Rattle.logic_elab.specs.Chains.{behind, calculated, connection, has_left};
-ghost use Rattle.logic_elab.specs.Elaborated.{sorted, literal, name_alone, symbol_term, symbol_or, name_term, named_term, answer_or, answer_term, model_of, formula, number, ordered, is_ordering, ordered_at, compared, elaborated, asserted, elaborated_under, asserted_under};
+ghost use Rattle.logic_elab.specs.Elaborated.{sorted, literal, name_alone, symbol_term, symbol_or, name_term, named_term, answer_or, answer_term, model_of, formula, number, ordered, is_ordering, ordered_at, compared, quantifier_of, chosen, elaborated, asserted, elaborated_under, asserted_under};
 
-use crate::binders::{for_all, meant_under, symbols_inside, symbols_of};
+use crate::binders::{bound_all, meant_under, symbols_inside, symbols_of};
 use crate::chain::{Connective, TermDescent, TermOperation, descend};
 use crate::refusal::{mismatch, unbuilt, unknown_name};
 use crate::scope::{Symbol, TermScope};
 use crate::sorted::SortedTerm;
 use crate::sorts::{fits, is_bool, is_math_int, same_ty};
-use logic_term::{Term, Ty, TyNode};
+use logic_term::{Quantifier as TermQuantifier, Term, Ty, TyNode};
 use source_kinds::{ArithOp, Comparison, IntKind};
 use source_trees::{Binder, Path, PathNode, Pterm, PtermNode, Quantifier, Segment, UnaryTerm};
 use std::alloc::Global;
@@ -274,6 +274,39 @@ fn compared(
     Ok(formula_of_sort(alloc, ordered(alloc, op, a, b)?)?)
 }
 
+fn quantifier_of(word: Quantifier) -> TermQuantifier
+    ensures { quantifier result ≡ quantifier_of word }
+{
+    match word {
+        Quantifier::Forall => TermQuantifier::Forall,
+        Quantifier::Exists => TermQuantifier::Exists,
+    }
+}
+
+/// `if`; the span is that of the second side.
+#[tactic(auto, unfolding(crate::specs::Elaborated::chosen))]
+fn chosen(
+    alloc: Global,
+    span: Span,
+    condition: Boxed<Term>,
+    a: SortedTerm,
+    b: SortedTerm,
+) -> Result<SortedTerm, PassError>
+    ensures { Answers result (chosen span condition a b) }
+{
+    let SortedTerm { sort, term: first } = a;
+    let SortedTerm {
+        sort: other,
+        term: second,
+    } = b;
+    if !same_ty(&other, &sort) {
+        return Err(mismatch(span));
+    }
+    let condition = condition.into_inner();
+    let term = Term::choice(alloc, condition, first.into_inner(), second.into_inner())?;
+    Ok(of_sort(alloc, sort, term)?)
+}
+
 fn calculated(
     alloc: Global,
     op: ArithOp,
@@ -375,8 +408,11 @@ fn elaborate_form<S: TermScope>(
             let a = elaborate_formula_under(alloc, scope, bound, a)?;
             Ok(formula_of_sort(alloc, Term::not(alloc, a.into_inner())?)?)
         }
-        PtermNode::Quantified(Quantifier::Forall, binders, body) => {
-            elaborate_forall(alloc, scope, bound, binders, body)
+        PtermNode::If(condition, first, second) => {
+            elaborate_choice(alloc, scope, bound, condition, first, second)
+        }
+        PtermNode::Quantified(word, binders, body) => {
+            elaborate_quantified(alloc, scope, bound, *word, binders, body)
         }
         PtermNode::Unary(UnaryTerm::View, _) | PtermNode::Binary(_, _, _) => unreachable!(),
         PtermNode::Unary(UnaryTerm::Current | UnaryTerm::Final, _)
@@ -388,28 +424,46 @@ fn elaborate_form<S: TermScope>(
         | PtermNode::Call(_, _)
         | PtermNode::Literal(_, _)
         | PtermNode::Tuple(_)
-        | PtermNode::If(_, _, _)
         | PtermNode::Match(_, _)
-        | PtermNode::Quantified(Quantifier::Exists, _, _)
         | PtermNode::Predicate(_, _) => Err(unbuilt(t.span)),
     }
 }
 
-/// `forall`, with its binders and its body.
+/// `if` with its condition and its sides, which are of one sort.
 #[cycle(elaborate)]
-fn elaborate_forall<S: TermScope>(
+fn elaborate_choice<S: TermScope>(
     alloc: Global,
     scope: &S,
     bound: &[Symbol],
+    condition: &Pterm,
+    first: &Pterm,
+    second: &Pterm,
+) -> Result<SortedTerm, PassError>
+    ensures { (s : Span) → Answers result (elaborated_under (S.scope scope.now) (inside [] bound.now) (choice s condition.now first.now second.now)) }
+{
+    let condition = elaborate_formula_under(alloc, scope, bound, condition)?;
+    let left = elaborate_under(alloc, scope, bound, first)?;
+    let right = elaborate_under(alloc, scope, bound, second)?;
+    chosen(alloc, span_of(second), condition, left, right)
+}
+
+/// A quantifier, with its binders and its body.
+#[cycle(elaborate)]
+fn elaborate_quantified<S: TermScope>(
+    alloc: Global,
+    scope: &S,
+    bound: &[Symbol],
+    word: Quantifier,
     binders: &[Binder],
     body: &Pterm,
 ) -> Result<SortedTerm, PassError>
-    ensures { (s : Span) → Answers result (elaborated_under (S.scope scope.now) (inside [] bound.now) (quantified s Forall binders.now body.now)) }
+    ensures { (s : Span) → Answers result (elaborated_under (S.scope scope.now) (inside [] bound.now) (quantified s word binders.now body.now)) }
 {
     let symbols = symbols_of(alloc, binders)?;
     let inner = symbols_inside(alloc, bound, symbols.as_slice())?;
     let formula = elaborate_formula_under(alloc, scope, inner.as_slice(), body)?;
-    Ok(formula_of_sort(alloc, for_all(alloc, symbols, formula.into_inner())?)?)
+    let formula = bound_all(alloc, quantifier_of(word), symbols, formula.into_inner())?;
+    Ok(formula_of_sort(alloc, formula)?)
 }
 
 /// The operation, whose left operand is elaborated.

@@ -3,8 +3,8 @@ use Rattle.std.proofs.Common.{◌≡◌, ℕ, zero, suc, Bool, true, false, ◌�
 use Rattle.logic_term.specs.Ty.{Tys}
 use Rattle.logic_term.specs.Value.{Value, Values, Flag}
 use Rattle.logic_term.specs.declared.kinds.Ctor.{Ctor}
-use Rattle.logic_term.specs.Term.{Operator, modeled, negated, denied, arith, less, at_most, equal, both, either, implied, made, Quantifier, every, some}
-use Rattle.logic_term.specs.Meaning.{Sure, Has, Of, OfTwo, Decided, Says, Yes, Each, MadeOf, Calls, AppliedBy, Quantified}
+use Rattle.logic_term.specs.Term.{Operator, modeled, negated, denied, field, arith, less, at_most, equal, both, either, implied, choice, made, Quantifier, every, some}
+use Rattle.logic_term.specs.Meaning.{Sure, Has, Of, OfTwo, Decided, Says, Yes, Picked, Chosen, Each, MadeOf, Calls, AppliedBy, Quantified}
 
 pub sure_map : (P Q : Type 0) → (P → Q) → Sure P → Sure Q
 sure_map P Q f p n = p (λ x. n (f x))
@@ -63,6 +63,31 @@ of_two_into f A B C D e g v p n = e p.0 p.2 (λ q. g p.1 p.3 (λ r. n (p.0, p.1,
 of_two_alike : (f : Value → Value → Value) (A B C D : Has) → Alike A B → Alike C D → Alike (OfTwo f A C) (OfTwo f B D)
 of_two_alike f A B C D e g = alike _ _ (of_two_into f A B C D (to _ _ e) (to _ _ g)) (of_two_into f B A D C (from _ _ e) (from _ _ g))
 
+picked_alike : (b : Bool) (A A' B B' : Has) → Alike A A' → Alike B B' → Alike (Picked b A B) (Picked b A' B')
+picked_alike true A A' B B' e g = e
+picked_alike false A A' B B' e g = g
+
+chosen_into : (C D A A' B B' : Has) → Alike C D → Alike A A' → Alike B B' → Into (Chosen C A B) (Chosen D A' B')
+chosen_into C D A A' B B' e g h v p n = to _ _ (picked_alike p.0 A A' B B' g h) v p.2 (λ q. n (p.0, decided _ _ (yes_alike C D e) p.0 p.1, q))
+
+chosen_alike : (C D A A' B B' : Has) → Alike C D → Alike A A' → Alike B B' → Alike (Chosen C A B) (Chosen D A' B')
+chosen_alike C D A A' B B' e g h = alike _ _ (chosen_into C D A A' B B' e g h) (chosen_into D C A' A B' B (alike_back _ _ e) (alike_back _ _ g) (alike_back _ _ h))
+
+-- by the truth of the condition
+pub chosen_true : (C A B : Has) → Yes C → Alike (Chosen C A B) A
+chosen_true C A B y = alike _ _ (there C A B y) (λ v p n. n (true, y, p))
+  where
+    there : (C A B : Has) → Yes C → Into (Chosen C A B) A
+    there C A B y v (true, d, p) n = n p
+    there C A B y v (false, d, p) n = d y
+
+pub chosen_false : (C A B : Has) → (Yes C → ⊥) → Alike (Chosen C A B) B
+chosen_false C A B d = alike _ _ (there C A B d) (λ v p n. n (false, d, p))
+  where
+    there : (C A B : Has) → (Yes C → ⊥) → Into (Chosen C A B) B
+    there C A B d v (true, y, p) n = d y
+    there C A B d v (false, e, p) n = n p
+
 each_into : (n : ℕ) (A B : ℕ → Has) → ((k : ℕ) → Into (A k) (B k)) → (vs : Values) → Each n A vs → Sure (Each n B vs)
 each_into zero A B e vs p m = m p
 each_into (suc n) A B e vs p m = e 0 p.0 p.2 (λ q. each_into n (λ k. A (suc k)) (λ k. B (suc k)) (λ k. e (suc k)) p.1 p.3 (λ r. m (p.0, p.1, q, r, p.4)))
@@ -75,6 +100,7 @@ pub applied_alike : (C : Calls) (θ : Tys) (op : Operator) (n : ℕ) (A B : ℕ 
 applied_alike C θ modeled n A B e = of_alike _ _ _ (e 0)
 applied_alike C θ negated n A B e = of_alike _ _ _ (e 0)
 applied_alike C θ denied n A B e = says_alike _ _ ((λ d y. d ((yes_alike _ _ (e 0)).1 y)), (λ d y. d ((yes_alike _ _ (e 0)).0 y)))
+applied_alike C θ (field i) n A B e = of_alike _ _ _ (e 0)
 applied_alike C θ (arith op) n A B e = of_two_alike _ _ _ _ _ (e 0) (e 1)
 applied_alike C θ less n A B e = of_two_alike _ _ _ _ _ (e 0) (e 1)
 applied_alike C θ at_most n A B e = of_two_alike _ _ _ _ _ (e 0) (e 1)
@@ -91,6 +117,7 @@ applied_alike C θ implied n A B e = says_alike _ _ (
   (λ f y. (yes_alike _ _ (e 1)).0 (f ((yes_alike _ _ (e 0)).1 y))),
   (λ f y. (yes_alike _ _ (e 1)).1 (f ((yes_alike _ _ (e 0)).0 y))),
 )
+applied_alike C θ choice n A B e = chosen_alike _ _ _ _ _ _ (e 0) (e 1) (e 2)
 applied_alike C θ (made c) n A B e = alike _ _ (made_into c (Each n A) (Each n B) (each_into n A B (λ k. to _ _ (e k)))) (made_into c (Each n B) (Each n A) (each_into n B A (λ k. from _ _ (e k))))
 
 -- the same where the numbers of arguments are equal by a law

@@ -1,15 +1,15 @@
 -- Terms that are placed twice. What is placed in a placed term is placed in the term, where each name stands for what stands for it,
 -- placed; so the normal form of a term is that of each term that has the same reduct at each depth.
-use Rattle.std.proofs.Common.{◌≡◌, ℕ, suc, ◌≤◌, ◌<◌, ◌==◌, ◌||◌, ◌&&◌, not, max, Bool, true, false, cond, List, [], ◌∷◌, refl, sym, ◌∙◌, ap, ap₂, true≢false, arith, subst as along}
+use Rattle.std.proofs.Common.{◌≡◌, ℕ, zero, suc, ◌≤◌, ◌<◌, ◌==◌, ◌||◌, ◌&&◌, not, max, Bool, true, false, cond, List, [], ◌∷◌, refl, sym, ◌∙◌, ap, ap₂, true≢false, arith, subst as along}
 use Rattle.std.proofs.lemmas.Bool.Decides.{nat_tests}
 use Rattle.text_core.specs.declared.name.Name.{Name}
 use Rattle.logic_term.specs.Canonical.{is_one_of, above_free, all_above_free, canonical}
 use Rattle.logic_term.specs.Free.{free, free_in_some}
 use Rattle.logic_term.specs.Normal.{reduced}
 use Rattle.logic_term.specs.Placed.{Placing, itself, put, name_at, placed, all_placed}
-use Rattle.logic_term.specs.Simplified.{simplified, formed}
+use Rattle.logic_term.specs.Simplified.{nth_term, simplified, formed}
 use Rattle.logic_term.specs.Subst.{above, placing, replaced}
-use Rattle.logic_term.specs.Term.{Operator, modeled, Term, Terms, var, lit, truth, apply, bind, no_terms, and_term}
+use Rattle.logic_term.specs.Term.{Operator, modeled, field, choice, made, Term, Terms, var, lit, truth, apply, bind, no_terms, and_term}
 use Rattle.logic_term.specs.Ty.{int}
 use Rattle.logic_term.proofs.CanonicalLaw.{free_below}
 use Rattle.logic_term.proofs.Coincide.{free_above}
@@ -64,8 +64,16 @@ mutual
 
 -- ---- free names of a placed term
 
+in_nth : (ts : Terms) (n : ℕ) (y : Name) → free y (nth_term ts n) ≡ true → free_in_some y ts ≡ true
+in_nth no_terms n y e = absurd (true≢false (sym e))
+in_nth (and_term t ts) zero y e = or_left (free y t) (free_in_some y ts) e
+in_nth (and_term t ts) (suc n) y e = or_right (free y t) (free_in_some y ts) (in_nth ts n y e)
+
 in_simplified : (op : Operator) (ts : Terms) (y : Name) → free y (simplified op ts) ≡ true → free_in_some y ts ≡ true
 in_simplified modeled (and_term (lit z (int k)) no_terms) y e = absurd (true≢false (sym e))
+in_simplified (field n) (and_term (apply (made c) ts) no_terms) y e = or_left (free_in_some y ts) false (in_nth ts n y e)
+in_simplified choice (and_term (truth true) (and_term a (and_term b no_terms))) y e = or_left (free y a) (free y b || false) e
+in_simplified choice (and_term (truth false) (and_term a (and_term b no_terms))) y e = or_right (free y a) (free y b || false) (or_left (free y b) false e)
 in_simplified op ts y e = e
 
 in_formed : (r : Bool) (op : Operator) (ts : Terms) (y : Name) → free y (formed r op ts) ≡ true → free_in_some y ts ≡ true
@@ -184,8 +192,16 @@ module _ (R r Q : Bool) (Fine : Placing → Type 0) (under : (ν : Placing) (y :
 
 -- ---- reduced outside
 
+placed_nth : (r : Bool) (ν : Placing) (n : ℕ) (ts : Terms) (k : ℕ) → placed r n ν (nth_term ts k) ≡ nth_term (all_placed r n ν ts) k
+placed_nth r ν n no_terms k = refl
+placed_nth r ν n (and_term t ts) zero = refl
+placed_nth r ν n (and_term t ts) (suc k) = placed_nth r ν n ts k
+
 placed_simplified : (ν : Placing) (n : ℕ) (op : Operator) (ts : Terms) → placed true n ν (simplified op ts) ≡ simplified op (all_placed true n ν ts)
 placed_simplified ν n modeled (and_term (lit z (int k)) no_terms) = refl
+placed_simplified ν n (field k) (and_term (apply (made c) ts) no_terms) = placed_nth true ν n ts k
+placed_simplified ν n choice (and_term (truth true) (and_term a (and_term b no_terms))) = refl
+placed_simplified ν n choice (and_term (truth false) (and_term a (and_term b no_terms))) = refl
 placed_simplified ν n op ts = refl
 
 placed_formed : (r : Bool) (ν : Placing) (n : ℕ) (op : Operator) (ts : Terms) → Unit {0} → placed true n ν (formed r op ts) ≡ formed true op (all_placed true n ν ts)
@@ -221,9 +237,20 @@ names_under ν y n f x k = name_or (x.0 == y.0) n (ν x k) (f x k)
 model_of_name : (u : Term) (y : Name) (ts : Terms) → u ≡ var y → apply modeled (and_term u ts) ≡ simplified modeled (and_term u ts)
 model_of_name u y ts e = along (λ w. apply modeled (and_term w ts) ≡ simplified modeled (and_term w ts)) (sym e) refl
 
+part_of_name : (k : ℕ) (u : Term) (y : Name) (ts : Terms) → u ≡ var y → apply (field k) (and_term u ts) ≡ simplified (field k) (and_term u ts)
+part_of_name k u y ts e = along (λ w. apply (field k) (and_term w ts) ≡ simplified (field k) (and_term w ts)) (sym e) refl
+
+choice_by_name : (u : Term) (y : Name) (ts : Terms) → u ≡ var y → apply choice (and_term u ts) ≡ simplified choice (and_term u ts)
+choice_by_name u y ts e = along (λ w. apply choice (and_term w ts) ≡ simplified choice (and_term w ts)) (sym e) refl
+
 renamed_simplified : (ν : Placing) (n : ℕ) (op : Operator) (ts : Terms) → AreNames ν → placed false n ν (simplified op ts) ≡ simplified op (all_placed false n ν ts)
 renamed_simplified ν n modeled (and_term (lit z (int k)) no_terms) f = refl
 renamed_simplified ν n modeled (and_term (var x) ts) f = let is = f x n in model_of_name (ν x n) is.0 (all_placed false n ν ts) is.1
+renamed_simplified ν n (field k) (and_term (apply (made c) ts) no_terms) f = placed_nth false ν n ts k
+renamed_simplified ν n (field k) (and_term (var x) ts) f = let is = f x n in part_of_name k (ν x n) is.0 (all_placed false n ν ts) is.1
+renamed_simplified ν n choice (and_term (truth true) (and_term a (and_term b no_terms))) f = refl
+renamed_simplified ν n choice (and_term (truth false) (and_term a (and_term b no_terms))) f = refl
+renamed_simplified ν n choice (and_term (var x) ts) f = let is = f x n in choice_by_name (ν x n) is.0 (all_placed false n ν ts) is.1
 renamed_simplified ν n op ts f = refl
 
 -- a reduct whose bound names are numbered again

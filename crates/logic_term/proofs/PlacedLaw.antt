@@ -1,6 +1,6 @@
 -- The values of a placed term are those of the term where its free names have the values of what stands for them: the one law of
 -- substitution, of canonical forms and of the normal form.
-use Rattle.std.proofs.Common.{◌≡◌, ℕ, zero, suc, ◌≤◌, ◌<◌, ◌==◌, ◌&&◌, not, max, Bool, true, false, cond, List, [], ◌∷◌, refl, sym, ◌∙◌, ap, arith}
+use Rattle.std.proofs.Common.{◌≡◌, ℕ, zero, suc, ◌≤◌, ◌<◌, ◌==◌, ◌&&◌, not, max, Bool, true, false, cond, List, [], ◌∷◌, refl, sym, ◌∙◌, ap, true≢false, arith}
 use Rattle.std.proofs.lemmas.Bool.Decides.{nat_tests}
 use Rattle.text_core.specs.declared.name.Name.{Name}
 use Rattle.logic_term.specs.declared.kinds.Ctor.{Ctor}
@@ -8,17 +8,18 @@ use Rattle.logic_term.specs.declared.kinds.TermBinary.{TermBinary}
 use Rattle.logic_term.specs.declared.kinds.TermBinary.TheVariants as binary
 use Rattle.logic_term.specs.declared.subst.Replacement.{Replacement}
 use Rattle.logic_term.specs.Free.{free, free_in_some}
-use Rattle.logic_term.specs.Meaning.{Calls, Structure, Env, with_value, MeansBy, ArgumentBy, calls, Means}
+use Rattle.logic_term.specs.Meaning.{Calls, Structure, Env, with_value, Each, MeansBy, ArgumentBy, calls, Means}
 use Rattle.logic_term.specs.Placed.{Placing, itself, put, name_at, placed, all_placed}
-use Rattle.logic_term.specs.Simplified.{simplified, formed}
+use Rattle.logic_term.specs.Simplified.{nth_term, simplified, formed}
 use Rattle.logic_term.specs.Subst.{above, look, placing, subst, above_entries, with_terms, replaced}
-use Rattle.logic_term.specs.Term.{Operator, modeled, made, Term, Terms, var, lit, truth, apply, bind, no_terms, and_term, two, count}
+use Rattle.logic_term.specs.Term.{Operator, modeled, field, choice, made, Term, Terms, var, lit, truth, apply, bind, no_terms, and_term, two, part, count}
 use Rattle.logic_term.specs.TermOperator.{binary_operator}
 use Rattle.logic_term.specs.Ty.{int}
-use Rattle.logic_term.specs.Value.{Value, Number, integer_of}
-use Rattle.logic_term.proofs.Alike.{alike_exactly, Alike, alike_same, alike_then, applied_alike_at, quantified_alike}
+use Rattle.logic_term.specs.Value.{Value, Values, Number, Flag, Made, flag_of, integer_of, nth_value, nth_part}
+use Rattle.logic_term.proofs.Alike.{alike, alike_exactly, Alike, alike_same, alike_back, alike_then, chosen_true, chosen_false, applied_alike_at, quantified_alike}
 use Rattle.logic_term.proofs.Coincide.{Agree, agree_new, coincide, with_same, free_above}
 use Rattle.logic_term.proofs.FreeLaw.{or_left, or_right}
+use Rattle.logic_term.proofs.Unique.{single_by, have_values_by, each_some}
 
 pub count_placed : (r : Bool) (n : ℕ) (σ : Placing) (ts : Terms) → count (all_placed r n σ ts) ≡ count ts
 count_placed r n σ no_terms = refl
@@ -43,8 +44,26 @@ made_formed false c ts = refl
 
 -- whatever calls mean
 module _ (C : Calls) (S : Structure) where
+  -- a part of what is made of parts
+  nth_means : (ts : Terms) (k : ℕ) (ρ : Env) (vs : Values) → Each (count ts) (λ j. ArgumentBy C S ts ρ j) vs → MeansBy C S (nth_term ts k) ρ (nth_value vs k)
+  nth_means no_terms k ρ vs p = rw p refl
+  nth_means (and_term t ts) zero ρ vs p = rw p.4 p.2
+  nth_means (and_term t ts) (suc k) ρ vs p = rw p.4 (nth_means ts k ρ p.1 p.3)
+
+  part_means : (c : Ctor) (ts : Terms) (k : ℕ) (ρ : Env) → Alike (MeansBy C S (nth_term ts k) ρ) (MeansBy C S (part k (apply (made c) ts)) ρ)
+  part_means c ts k ρ = alike _ _
+      (λ v p n. each_some (count ts) (λ j. ArgumentBy C S ts ρ j) (λ j. have_values_by C S ts ρ j)
+      (λ q. n (Made c q.0, (q.0, q.1, refl), single_by C S (nth_term ts k) ρ v (nth_value q.0 k) p (nth_means ts k ρ q.0 q.1))))
+      (λ v p n. n (rw (p.2 ∙ ap (nth_part k) p.1.2) (nth_means ts k ρ p.1.0 p.1.1)))
+
+  false_is_not_true : Flag true ≡ Flag false → ⊥
+  false_is_not_true e = true≢false (ap flag_of e)
+
   simplified_means : (op : Operator) (ts : Terms) (ρ : Env) → Alike (MeansBy C S (simplified op ts) ρ) (MeansBy C S (apply op ts) ρ)
   simplified_means modeled (and_term (lit z (int k)) no_terms) ρ = alike_exactly _ _ (λ v. ((λ p. (Number z, refl, p)), (λ p. p.2 ∙ ap (λ x. Number (integer_of x)) p.1)))
+  simplified_means (field k) (and_term (apply (made c) ts) no_terms) ρ = part_means c ts k ρ
+  simplified_means choice (and_term (truth true) (and_term a (and_term b no_terms))) ρ = alike_back _ _ (chosen_true (MeansBy C S (truth true) ρ) (MeansBy C S a ρ) (MeansBy C S b ρ) (λ n. n refl))
+  simplified_means choice (and_term (truth false) (and_term a (and_term b no_terms))) ρ = alike_back _ _ (chosen_false (MeansBy C S (truth false) ρ) (MeansBy C S a ρ) (MeansBy C S b ρ) (λ y. y false_is_not_true))
   simplified_means op ts ρ = alike_same _
 
   formed_means : (r : Bool) (op : Operator) (ts : Terms) (ρ : Env) → Alike (MeansBy C S (formed r op ts) ρ) (MeansBy C S (apply op ts) ρ)

@@ -30,6 +30,11 @@ pub two_last : (f : List Term → Term) (old mid rest : List Term) (a b : Term) 
 two_last f old mid rest a b e g =
     ap (with_last f 2) (e ∙ ap (λ ts. ts ++ b ∷ []) g ∙ append_assoc rest (a ∷ []) (b ∷ [])) ∙ last_at f 2 rest (a ∷ b ∷ []) refl
 
+pub three_last : (f : List Term → Term) (old after mid rest : List Term) (a b c : Term) → old ≡ after ++ c ∷ [] → after ≡ mid ++ b ∷ [] → mid ≡ rest ++ a ∷ [] → with_last f 3 old ≡ rest ++ f (a ∷ b ∷ c ∷ []) ∷ []
+three_last f old after mid rest a b c e g h =
+    ap (with_last f 3) (e ∙ ap (λ ts. ts ++ c ∷ []) (g ∙ ap (λ ts. ts ++ b ∷ []) h) ∙ ap (λ ts. ts ++ c ∷ []) (append_assoc rest (a ∷ []) (b ∷ [])) ∙ append_assoc rest (a ∷ b ∷ []) (c ∷ []))
+    ∙ last_at f 3 rest (a ∷ b ∷ c ∷ []) refl
+
 -- ---- what comes of a term's steps
 
 count_listed : (r : Bool) (n : ℕ) (σ : Placing) (ts : Terms) → length (listed (all_placed r n σ ts)) ≡ count ts

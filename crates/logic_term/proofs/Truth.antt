@@ -1,15 +1,15 @@
 -- What the truth of a formula says, form by form.
-use Rattle.std.proofs.Common.{◌≡◌, ℤ, Bool, true, false, ◌↔◌, refl, sym, ◌∙◌, ap, ap₂, true≢false}
+use Rattle.std.proofs.Common.{◌≡◌, ℕ, ℤ, Bool, true, false, ◌↔◌, refl, sym, ◌∙◌, ap, ap₂, true≢false}
 use Rattle.std.specs.Prelude.{int_le, int_lt, neg_ℤ}
 use Rattle.text_core.specs.declared.name.Name.{Name}
 use Rattle.source_kinds.specs.declared.kinds.ArithOp.{ArithOp}
 use Rattle.logic_term.specs.Ty.{Ty}
-use Rattle.logic_term.specs.Value.{Value, Number, Flag, flag_of, integer_of}
-use Rattle.logic_term.specs.Term.{Term, truth, model, negative, not, calculate, is_less, is_at_most, is_equal, and, or, implies, forall}
+use Rattle.logic_term.specs.Value.{Value, Number, Flag, flag_of, integer_of, nth_part}
+use Rattle.logic_term.specs.Term.{Term, truth, model, negative, not, calculate, is_less, is_at_most, is_equal, and, or, implies, forall, exists, part, if_else}
 use Rattle.logic_term.specs.Meaning.{Sure, Has, Of, OfTwo, Says, Yes, calculated, on_integers, compared, Structure, Env, with_value, Means, Holds}
 use Rattle.logic_term.specs.Sort.{HasSort, instance}
 use Rattle.logic_term.specs.Theory.{declared}
-use Rattle.logic_term.proofs.Alike.{Alike, alike, to, from, sure_map}
+use Rattle.logic_term.proofs.Alike.{Alike, alike, to, from, sure_map, chosen_true, chosen_false}
 
 pub stable_bool : (b c : Bool) → Sure (b ≡ c) → b ≡ c
 stable_bool true true s = refl
@@ -78,6 +78,19 @@ module _ (S : Structure) where
 
   pub holds_forall : (x : Name) (s : Ty) (t : Term) (ρ : Env) → Holds S (forall x s t) ρ ↔ ((w : Value) → HasSort (declared S.theory) w (instance S.types s) → Holds S t (with_value ρ x w))
   holds_forall x s t ρ = says_what _ (λ f w h n. f (λ g. g w h n))
+
+  pub holds_exists : (x : Name) (s : Ty) (t : Term) (ρ : Env) → Holds S (exists x s t) ρ ↔ (((w : Value) → HasSort (declared S.theory) w (instance S.types s) → Holds S t (with_value ρ x w) → ⊥) → ⊥)
+  holds_exists x s t ρ = says_what _ (λ f g. f (λ h. h g))
+
+  pub part_exactly : (n : ℕ) (t : Term) (ρ : Env) (v : Value) → Exactly (Means S t ρ) v → Exactly (Means S (part n t) ρ) (nth_part n v)
+  part_exactly n t ρ v e = of_exactly _ _ v e
+
+  -- an `if` where its condition is true, and where it is not
+  pub choice_true : (c a b : Term) (ρ : Env) → Holds S c ρ → Alike (Means S (if_else c a b) ρ) (Means S a ρ)
+  choice_true c a b ρ h = chosen_true (Means S c ρ) (Means S a ρ) (Means S b ρ) h
+
+  pub choice_false : (c a b : Term) (ρ : Env) → (Holds S c ρ → ⊥) → Alike (Means S (if_else c a b) ρ) (Means S b ρ)
+  choice_false c a b ρ h = chosen_false (Means S c ρ) (Means S a ρ) (Means S b ρ) h
 
   pub holds_equal : (a b : Term) (ρ : Env) → Holds S (is_equal a b) ρ ↔ ((x y : Value) → Means S a ρ x → Means S b ρ y → Sure (x ≡ y))
   holds_equal a b ρ = says_what _ (λ f x y p q n. f (λ g. g x y p q n))

@@ -2,8 +2,8 @@
 use Rattle.std.proofs.Common.{◌≡◌, ℕ, zero, suc, Bool, true, false, refl, sym, ◌∙◌, ap, ap₂}
 use Rattle.logic_term.specs.declared.kinds.Ctor.{Ctor}
 use Rattle.logic_term.specs.Value.{Value, Values, Number, Flag, Made, no_values, and_value}
-use Rattle.logic_term.specs.Term.{Operator, modeled, negated, denied, arith, less, at_most, equal, both, either, implied, made, Quantifier, every, some, Term, Terms, var, lit, truth, apply, bind, no_terms, and_term, count}
-use Rattle.logic_term.specs.Meaning.{Sure, Has, Of, OfTwo, Decided, Says, Each, MadeOf, Calls, AppliedBy, Quantified, Structure, Env, with_value, MeansBy, ArgumentBy, calls, Means}
+use Rattle.logic_term.specs.Term.{Operator, modeled, negated, denied, field, arith, less, at_most, equal, both, either, implied, choice, made, Quantifier, every, some, Term, Terms, var, lit, truth, apply, bind, no_terms, and_term, count}
+use Rattle.logic_term.specs.Meaning.{Sure, Has, Of, OfTwo, Decided, Says, Yes, Picked, Chosen, Each, MadeOf, Calls, AppliedBy, Quantified, Structure, Env, with_value, MeansBy, ArgumentBy, calls, Means}
 use Rattle.logic_term.specs.Sort.{HasSort, instance}
 use Rattle.logic_term.specs.Theory.{declared}
 use Rattle.logic_term.specs.Ty.{Tys}
@@ -30,6 +30,13 @@ same_decision P false false d e = refl
 pub says_single : (P : Type 0) → Single (Says P)
 says_single P x y p q = p.1 ∙ ap Flag (same_decision P p.0 q.0 p.2 q.2) ∙ sym q.1
 
+picked_single : (b : Bool) (A B : Has) → Single A → Single B → Single (Picked b A B)
+picked_single true A B s t = s
+picked_single false A B s t = t
+
+chosen_single : (C A B : Has) → Single A → Single B → Single (Chosen C A B)
+chosen_single C A B s t x y p q = picked_single p.0 A B s t x y p.2 (rw (same_decision (Yes C) q.0 p.0 q.1 p.1) at q.2)
+
 each_single : (n : ℕ) (A : ℕ → Has) → ((k : ℕ) → Single (A k)) → (us vs : Values) → Each n A us → Each n A vs → us ≡ vs
 each_single zero A s us vs p q = p ∙ sym q
 each_single (suc n) A s us vs p q = p.4 ∙ ap₂ and_value (s 0 p.0 q.0 p.2 q.2) (each_single n (λ k. A (suc k)) (λ k. s (suc k)) p.1 q.1 p.3 q.3) ∙ sym q.4
@@ -41,6 +48,7 @@ pub applied_single : (C : Calls) (θ : Tys) (op : Operator) (n : ℕ) (A : ℕ �
 applied_single C θ modeled n A s = of_single _ _ (s 0)
 applied_single C θ negated n A s = of_single _ _ (s 0)
 applied_single C θ denied n A s = says_single _
+applied_single C θ (field i) n A s = of_single _ _ (s 0)
 applied_single C θ (arith op) n A s = of_two_single _ _ _ (s 0) (s 1)
 applied_single C θ less n A s = of_two_single _ _ _ (s 0) (s 1)
 applied_single C θ at_most n A s = of_two_single _ _ _ (s 0) (s 1)
@@ -48,6 +56,7 @@ applied_single C θ equal n A s = says_single _
 applied_single C θ both n A s = says_single _
 applied_single C θ either n A s = says_single _
 applied_single C θ implied n A s = says_single _
+applied_single C θ choice n A s = chosen_single (A 0) _ _ (s 1) (s 2)
 applied_single C θ (made c) n A s = made_single c (Each n A) (each_single n A s)
 
 quantified_single : (q : Quantifier) (S : Value → Type 0) (A : Value → Has) → Single (Quantified q S A)
@@ -63,7 +72,10 @@ of_two_some f A B s t n = s (λ p. t (λ q. n (f p.0 q.0, (p.0, q.0, p.1, q.1, r
 says_some : (P : Type 0) → SomeValue (Says P)
 says_some P n = n (Flag false, (false, refl, λ p. n (Flag true, (true, refl, p))))
 
-each_some : (n : ℕ) (A : ℕ → Has) → ((k : ℕ) → SomeValue (A k)) → Sure ((vs : Values) × Each n A vs)
+chosen_some : (C A B : Has) → SomeValue A → SomeValue B → SomeValue (Chosen C A B)
+chosen_some C A B s t n = t (λ q. n (q.0, (false, (λ y. s (λ p. n (p.0, (true, y, p.1)))), q.1)))
+
+pub each_some : (n : ℕ) (A : ℕ → Has) → ((k : ℕ) → SomeValue (A k)) → Sure ((vs : Values) × Each n A vs)
 each_some zero A s m = m (no_values, refl)
 each_some (suc n) A s m = s 0 (λ p. each_some n (λ k. A (suc k)) (λ k. s (suc k)) (λ q. m (and_value p.0 q.0, (p.0, q.0, p.1, q.1, refl))))
 
@@ -74,6 +86,7 @@ applied_some : (C : Calls) (θ : Tys) (op : Operator) (n : ℕ) (A : ℕ → Has
 applied_some C θ modeled n A s = of_some _ _ (s 0)
 applied_some C θ negated n A s = of_some _ _ (s 0)
 applied_some C θ denied n A s = says_some _
+applied_some C θ (field i) n A s = of_some _ _ (s 0)
 applied_some C θ (arith op) n A s = of_two_some _ _ _ (s 0) (s 1)
 applied_some C θ less n A s = of_two_some _ _ _ (s 0) (s 1)
 applied_some C θ at_most n A s = of_two_some _ _ _ (s 0) (s 1)
@@ -81,6 +94,7 @@ applied_some C θ equal n A s = says_some _
 applied_some C θ both n A s = says_some _
 applied_some C θ either n A s = says_some _
 applied_some C θ implied n A s = says_some _
+applied_some C θ choice n A s = chosen_some (A 0) _ _ (s 1) (s 2)
 applied_some C θ (made c) n A s = made_some c (Each n A) (each_some n A s)
 
 quantified_some : (q : Quantifier) (S : Value → Type 0) (A : Value → Has) → SomeValue (Quantified q S A)

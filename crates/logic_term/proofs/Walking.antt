@@ -1,7 +1,9 @@
 -- One step of a walk over a term that keeps its own stack.
-use Rattle.std.proofs.Common.{◌≡◌, ℕ, ◌+◌, ◌<◌, ◌||◌, ◌&&◌, not, max, Bool, true, false, List, [], ◌∷◌, ◌++◌, map, reverse, refl, sym, ◌∙◌, ap, arith}
+use Rattle.std.proofs.Common.{◌≡◌, ℕ, zero, suc, ◌+◌, ◌≤◌, ◌<◌, length, ◌||◌, ◌&&◌, not, max, Bool, true, false, List, [], ◌∷◌, ◌++◌, map, reverse, refl, sym, ◌∙◌, ap, arith}
 use Rattle.std.proofs.lemmas.List.{reverse-append, map-append}
 use Rattle.std.specs.Borrow.{Bor}
+use Rattle.std.specs.Prelude.{get_or}
+use Rattle.logic_term.specs.Simplified.{nth_term}
 use Rattle.logic_term.specs.Subst.{above, all_above}
 use Rattle.logic_term.specs.Term.{Term, Terms, var, lit, truth, apply, bind, no_terms, and_term}
 use Rattle.logic_term.specs.TermView.{terms_of}
@@ -19,6 +21,18 @@ terms_listed (and_term t ts) = ap (λ us. and_term t us) (terms_listed ts)
 pub listed_terms : (ts : List Term) → listed (terms_of ts) ≡ ts
 listed_terms [] = refl
 listed_terms (t ∷ ts) = ap (λ us. t ∷ us) (listed_terms ts)
+
+-- ---- the term of a number
+
+pub nth_there : (ts : List Term) (n : ℕ) (t : Term) → t ≡ get_or ts n t → n < length ts → nth_term (terms_of ts) n ≡ t
+nth_there [] n t e l = absurd (omega arith)
+nth_there (t ∷ ts) zero u e l = sym e
+nth_there (t ∷ ts) (suc n) u e l = nth_there ts n u e (omega arith)
+
+pub nth_gone : (ts : List Term) (n : ℕ) → length ts ≤ n → nth_term (terms_of ts) n ≡ truth false
+nth_gone [] n l = refl
+nth_gone (t ∷ ts) zero l = absurd (omega arith)
+nth_gone (t ∷ ts) (suc n) l = nth_gone ts n (omega arith)
 
 -- ---- the walk of `above`
 

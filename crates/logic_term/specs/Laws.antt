@@ -4,8 +4,8 @@ use Rattle.text_core.specs.declared.name.Name.{Name}
 use Rattle.logic_term.specs.Ty.{Ty}
 use Rattle.logic_term.specs.declared.kinds.Ctor.{Ctor}
 use Rattle.logic_term.specs.declared.kinds.Ctor.TheVariants.{Tuple}
-use Rattle.logic_term.specs.Value.{Value, Values, Made, no_values, and_value, integer_of}
-use Rattle.logic_term.specs.Term.{made, Term, Terms, truth, apply, no_terms, and_term, unit, not, is_less, is_at_most, is_equal, and, or, implies, forall}
+use Rattle.logic_term.specs.Value.{Value, Values, Made, no_values, and_value, integer_of, nth_part}
+use Rattle.logic_term.specs.Term.{made, Term, Terms, truth, apply, no_terms, and_term, unit, not, is_less, is_at_most, is_equal, and, or, implies, forall, exists, part, if_else}
 use Rattle.logic_term.specs.Meaning.{Sure, Structure, Env, with_value, Means, Holds}
 use Rattle.logic_term.specs.Erased.{erased}
 use Rattle.logic_term.specs.Sort.{Declarations, HasSort, instance}
@@ -83,6 +83,15 @@ abbrev pub ValuesOfMade : Type 0
 ValuesOfMade = (S : Structure) (ρ : Env) (c : Ctor) (ts : Terms) (vs : Values)
     → HaveExactly S ts ρ vs → HasExactly S (apply (made c) ts) ρ (Made c vs)
 
+-- a part of a value
+abbrev pub ValuesOfParts : Type 0
+ValuesOfParts = (S : Structure) (ρ : Env) (n : ℕ) (t : Term) (v : Value) → HasExactly S t ρ v → HasExactly S (part n t) ρ (nth_part n v)
+
+-- an `if` has the values of a side, by the truth of its condition
+abbrev pub ValuesOfChoices : Type 0
+ValuesOfChoices = (S : Structure) (ρ : Env) (c t u : Term)
+    → (Holds S c ρ → SameValues S (if_else c t u) ρ t ρ) × (¬ Holds S c ρ → SameValues S (if_else c t u) ρ u ρ)
+
 abbrev pub ValueOfUnit : Type 0
 ValueOfUnit = (S : Structure) (ρ : Env) → HasExactly S unit ρ (Made Tuple no_values)
 
@@ -112,6 +121,11 @@ TruthOfImplies = (S : Structure) (ρ : Env) (t u : Term) → Holds S (implies t 
 abbrev pub TruthOfForall : Type 0
 TruthOfForall = (S : Structure) (ρ : Env) (x : Name) (s : Ty) (t : Term) → Holds S (forall x s t) ρ
     ↔ ((w : Value) → HasSort (declared S.theory) w (instance S.types s) → Holds S t (with_value ρ x w))
+
+-- not at every value of the sort the body is false
+abbrev pub TruthOfExists : Type 0
+TruthOfExists = (S : Structure) (ρ : Env) (x : Name) (s : Ty) (t : Term) → Holds S (exists x s t) ρ
+    ↔ (¬ ((w : Value) → HasSort (declared S.theory) w (instance S.types s) → ¬ Holds S t (with_value ρ x w)))
 
 abbrev pub TruthOfLess : Type 0
 TruthOfLess = (S : Structure) (ρ : Env) (t u : Term) (v w : Value) → HasExactly S t ρ v → HasExactly S u ρ w

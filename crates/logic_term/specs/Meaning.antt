@@ -6,10 +6,10 @@ use Rattle.text_core.specs.declared.name.Name.{Name}
 use Rattle.source_kinds.specs.declared.kinds.ArithOp.{ArithOp}
 use Rattle.source_kinds.specs.declared.kinds.ArithOp.TheVariants.{Add, Sub, Mul, Div, Rem}
 use Rattle.logic_term.specs.Ty.{Tys}
-use Rattle.logic_term.specs.Term.{Operator, modeled, negated, denied, arith, less, at_most, equal, both, either, implied, made, Quantifier, every, some, Term, Terms, var, lit, truth, apply, bind, no_terms, and_term, count}
+use Rattle.logic_term.specs.Term.{Operator, modeled, negated, denied, field, arith, less, at_most, equal, both, either, implied, choice, made, Quantifier, every, some, Term, Terms, var, lit, truth, apply, bind, no_terms, and_term, count}
 use Rattle.logic_term.specs.declared.kinds.Ctor.{Ctor}
 use Rattle.logic_term.specs.declared.kinds.LogicFn.{LogicFn}
-use Rattle.logic_term.specs.Value.{Value, Values, Number, Flag, Made, no_values, and_value, nothing, integer_of}
+use Rattle.logic_term.specs.Value.{Value, Values, Number, Flag, Made, no_values, and_value, nothing, integer_of, nth_part}
 use Rattle.logic_term.specs.Sort.{HasSort, instance}
 use Rattle.logic_term.specs.Theory.{Theory, declared}
 
@@ -67,6 +67,14 @@ Says P v = (b : Bool) × (v ≡ Flag b) × Decided b P
 abbrev pub Yes : Has → Type 0
 Yes A = Sure (A (Flag true))
 
+abbrev pub Picked : Bool → Has → Has → Has
+Picked true A B = A
+Picked false A B = B
+
+-- A where C is true, else B
+abbrev pub Chosen : Has → Has → Has → Has
+Chosen C A B v = (b : Bool) × Decided b (Yes C) × Picked b A B v
+
 -- division truncates toward zero; in terms a / 0 is 0 and a % 0 is a
 abbrev pub calculated : ArithOp → ℤ → ℤ → ℤ
 calculated Add a b = a +ℤ b
@@ -98,6 +106,7 @@ abbrev pub AppliedBy : Calls → Tys → Operator → ℕ → (ℕ → Has) → 
 AppliedBy C θ modeled n A = Of (on_integer (λ z. z)) (A 0)
 AppliedBy C θ negated n A = Of (on_integer neg_ℤ) (A 0)
 AppliedBy C θ denied n A = Says (Yes (A 0) → ⊥)
+AppliedBy C θ (field i) n A = Of (nth_part i) (A 0)
 AppliedBy C θ (arith op) n A = OfTwo (on_integers (calculated op)) (A 0) (A 1)
 AppliedBy C θ less n A = OfTwo (compared int_lt) (A 0) (A 1)
 AppliedBy C θ at_most n A = OfTwo (compared int_le) (A 0) (A 1)
@@ -105,6 +114,7 @@ AppliedBy C θ equal n A = Says ((x y : Value) → A 0 x → A 1 y → Sure (x �
 AppliedBy C θ both n A = Says (Yes (A 0) × Yes (A 1))
 AppliedBy C θ either n A = Says ((Yes (A 0) → ⊥) × (Yes (A 1) → ⊥) → ⊥)
 AppliedBy C θ implied n A = Says (Yes (A 0) → Yes (A 1))
+AppliedBy C θ choice n A = Chosen (A 0) (A 1) (A 2)
 AppliedBy C θ (made c) n A = MadeOf c (Each n A)
 
 -- S: the values of the variable's sort; A: the values of the body, by the variable's

@@ -1,6 +1,6 @@
 -- Sorts of terms, at what a program declares. A term is checked against a sort, since what makes a value of parts does not always say of which
 -- type it is one (Pierce and Turner 2000, checking).
-use Rattle.std.specs.Prelude.{◌≡◌, ◌⊎◌, ◌==◌, true, List, cond, Option, Some, None}
+use Rattle.std.specs.Prelude.{◌≡◌, ◌⊎◌, ◌==◌, ℕ, zero, suc, true, List, cond, Option, Some, None}
 use Rattle.text_core.specs.declared.name.Name.{Name}
 use Rattle.source_kinds.specs.declared.kinds.IntKind.{IntKind}
 use Rattle.source_kinds.specs.Range.{fits}
@@ -9,7 +9,7 @@ use Rattle.logic_term.specs.declared.kinds.Ctor.TheVariants.{Tuple, Variant, Clo
 use Rattle.logic_term.specs.declared.kinds.Region.{Region}
 use Rattle.logic_term.specs.Meaning.{Sure, Env, Means, structure_of}
 use Rattle.logic_term.specs.Sort.{HasSort, instance, instances}
-use Rattle.logic_term.specs.Term.{Operator, modeled, negated, denied, arith, less, at_most, equal, both, either, implied, made, Term, Terms, var, lit, truth, apply, bind, no_terms, and_term}
+use Rattle.logic_term.specs.Term.{Operator, modeled, negated, denied, field, arith, less, at_most, equal, both, either, implied, choice, made, Term, Terms, var, lit, truth, apply, bind, no_terms, and_term}
 use Rattle.logic_term.specs.Theory.{Theory, declared}
 use Rattle.logic_term.specs.Ty.{Ty, Tys, int, bool, math_int, tuple, adt, no_tys, and_ty}
 use Rattle.logic_term.specs.Value.{Value}
@@ -36,11 +36,23 @@ MadeSort Θ Tuple ss s = s ≡ tuple ss
 MadeSort Θ (Variant d k) ss s = (rs : List Region) × (ts : Tys) × (fs : Tys) × (s ≡ adt d rs ts) × (declared Θ d k ≡ Some fs) × (ss ≡ instances ts fs)
 MadeSort Θ (Closure n) ss s = ⊥
 
+abbrev pub sort_at : Tys → ℕ → Option Ty
+sort_at no_tys n = None
+sort_at (and_ty t ts) zero = Some t
+sort_at (and_ty t ts) (suc n) = sort_at ts n
+
+-- part n of a value of sort r has sort s: of a tuple, or of a declared type whose one variant is the first
+abbrev pub FieldSort : Theory → Ty → ℕ → Ty → Type 0
+FieldSort Θ (tuple ts) n s = sort_at ts n ≡ Some s
+FieldSort Θ (adt d rs ts) n s = (fs : Tys) × (declared Θ d 0 ≡ Some fs) × ((k : ℕ) (gs : Tys) → declared Θ d k ≡ Some gs → k ≡ 0) × (sort_at (instances ts fs) n ≡ Some s)
+FieldSort Θ _ n s = ⊥
+
 -- the operator takes arguments of sorts ss to a value of sort s
 abbrev pub OperatorSort : Theory → Operator → Tys → Ty → Type 0
 OperatorSort Θ modeled ss s = (k : IntKind) × (ss ≡ one_ty (int k)) × (s ≡ math_int)
 OperatorSort Θ negated ss s = (ss ≡ one_ty math_int) × (s ≡ math_int)
 OperatorSort Θ denied ss s = (ss ≡ one_ty bool) × (s ≡ bool)
+OperatorSort Θ (field n) ss s = (r : Ty) × (ss ≡ one_ty r) × FieldSort Θ r n s
 OperatorSort Θ (arith op) ss s = (ss ≡ two_tys math_int math_int) × (s ≡ math_int)
 OperatorSort Θ less ss s = (ss ≡ two_tys math_int math_int) × (s ≡ bool)
 OperatorSort Θ at_most ss s = (ss ≡ two_tys math_int math_int) × (s ≡ bool)
@@ -48,6 +60,7 @@ OperatorSort Θ equal ss s = (r : Ty) × (ss ≡ two_tys r r) × (s ≡ bool)
 OperatorSort Θ both ss s = (ss ≡ two_tys bool bool) × (s ≡ bool)
 OperatorSort Θ either ss s = (ss ≡ two_tys bool bool) × (s ≡ bool)
 OperatorSort Θ implied ss s = (ss ≡ two_tys bool bool) × (s ≡ bool)
+OperatorSort Θ choice ss s = ss ≡ and_ty bool (two_tys s s)
 OperatorSort Θ (made c) ss s = MadeSort Θ c ss s
 
 abbrev mutual

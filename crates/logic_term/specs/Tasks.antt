@@ -9,8 +9,8 @@ use Rattle.logic_term.specs.declared.subst.Replacement.{Replacement}
 use Rattle.logic_term.specs.Placed.{placed}
 use Rattle.logic_term.specs.Simplified.{formed}
 use Rattle.logic_term.specs.Subst.{look, numbers_before, placing}
-use Rattle.logic_term.specs.Term.{Operator, made, Quantifier, every, Term, var, lit, truth, apply, bind, count}
-use Rattle.logic_term.specs.TermOperator.{unary_operator, binary_operator}
+use Rattle.logic_term.specs.Term.{Operator, choice, made, Quantifier, Term, var, lit, truth, apply, bind, count}
+use Rattle.logic_term.specs.TermOperator.{unary_operator, binary_operator, quantifier}
 use Rattle.logic_term.specs.TermView.{terms_of}
 use Rattle.logic_term.specs.Ty.{Ty}
 use Rattle.logic_term.specs.Walk.{listed, weight}
@@ -24,17 +24,19 @@ pub data Step : Type 0 where
 abbrev pub form_operator : Form → Operator
 form_operator (form.Unary op) = unary_operator op
 form_operator (form.Binary op) = binary_operator op
+form_operator form.Choice = choice
 form_operator (form.Make c n) = made c
 
 abbrev pub form_count : Form → ℕ
 form_count (form.Unary op) = 1
 form_count (form.Binary op) = 2
+form_count form.Choice = 3
 form_count (form.Make c n) = n
 
 abbrev pub step : Task → Step
 step (task.Enter t) = enter t.now
 step (task.Form f) = apply_last (form_operator f) (form_count f)
-step (task.Quantify n s) = bind_last every n s.now
+step (task.Quantify q n s) = bind_last (quantifier q) n s.now
 
 -- those on a stack, the next one first
 abbrev pub steps : List Task → List Step

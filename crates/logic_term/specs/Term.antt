@@ -12,10 +12,14 @@ pub data Operator : Type 0 where
   modeled : Operator
   negated : Operator
   denied : Operator
+  -- part n of a tuple or a struct
+  field : ℕ → Operator
   -- two
   arith : ArithOp → Operator
   less at_most equal : Operator
   both either implied : Operator
+  -- three: a condition, and what is meant where it is true and where it is not
+  choice : Operator
   -- any number
   made : Ctor → Operator
 
@@ -78,6 +82,15 @@ implies = two implied
 
 abbrev pub forall : Name → Ty → Term → Term
 forall = bind every
+
+abbrev pub exists : Name → Ty → Term → Term
+exists = bind some
+
+abbrev pub part : ℕ → Term → Term
+part n = one (field n)
+
+abbrev pub if_else : (condition first second : Term) → Term
+if_else c a b = apply choice (and_term c (and_term a (and_term b no_terms)))
 
 abbrev pub is_implication : Term → Bool
 is_implication (apply implied ts) = true

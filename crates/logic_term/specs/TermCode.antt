@@ -6,7 +6,7 @@ use Rattle.std.specs.Coded.{Coded, coded_ℤ, coded_bool}
 use base.Stored.{Gv, gnil, gnum, gcons, num}
 use Rattle.text_core.specs.contracts.name.Name as name
 use Rattle.logic_term.specs.TyCode.{head, tail, tag, coded_ty}
-use Rattle.logic_term.specs.Term.{Operator, modeled, negated, denied, arith, less, at_most, equal, both, either, implied, made, Quantifier, every, some, Term, Terms, var, lit, truth, apply, bind, no_terms, and_term}
+use Rattle.logic_term.specs.Term.{Operator, modeled, negated, denied, field, arith, less, at_most, equal, both, either, implied, choice, made, Quantifier, every, some, Term, Terms, var, lit, truth, apply, bind, no_terms, and_term}
 use Rattle.source_kinds.specs.contracts.kinds.ArithOp as arith_op
 use Rattle.logic_term.specs.contracts.kinds.Ctor as ctor
 
@@ -22,6 +22,8 @@ operator_code both = gcons (gnum 7) gnil
 operator_code either = gcons (gnum 8) gnil
 operator_code implied = gcons (gnum 9) gnil
 operator_code (made c) = gcons (gnum 10) (ctor.the_row.coded.code c)
+operator_code (field n) = gcons (gnum 11) (gnum n)
+operator_code choice = gcons (gnum 12) gnil
 
 pub operator_injective : (x y : Operator) → operator_code x ≡ operator_code y → x ≡ y
 operator_injective modeled modeled p = refl
@@ -35,6 +37,8 @@ operator_injective both both p = refl
 operator_injective either either p = refl
 operator_injective implied implied p = refl
 operator_injective (made a) (made b) p = λ i. made (ctor.the_row.coded.inj a b (ap tail p) i)
+operator_injective (field m) (field n) p = λ i. field (ap (λ g. num (tail g)) p i)
+operator_injective choice choice p = refl
 operator_injective x y p = absurd (omega (sums, ap tag p))
 
 abbrev pub quantifier_code : Quantifier → Gv

@@ -39,4 +39,5 @@ falls (node.Truth b) = omega arith
 falls (node.Make c ts) = omega (arith, most_terms ts.items)
 falls (node.Unary op a) = omega arith
 falls (node.Binary op a b) = omega arith
-falls (node.Forall x s a) = omega arith
+falls (node.Choice c a b) = omega arith
+falls (node.Quantified q x s a) = omega arith

@@ -1,7 +1,7 @@
 -- The terms that nodes and forms stand for, and how deep terms are.
 use Rattle.std.specs.Prelude.{ℕ, suc, max, List, [], ◌∷◌}
-use Rattle.logic_term.specs.Term.{made, Term, Terms, var, lit, truth, apply, bind, no_terms, and_term, one, two, forall}
-use Rattle.logic_term.specs.TermOperator.{unary_operator, binary_operator}
+use Rattle.logic_term.specs.Term.{made, Term, Terms, var, lit, truth, apply, bind, no_terms, and_term, one, two, if_else}
+use Rattle.logic_term.specs.TermOperator.{unary_operator, binary_operator, quantifier}
 use Rattle.logic_term.specs.declared.term.TermForm.{TermForm}
 use Rattle.logic_term.specs.declared.term.TermForm.TheVariants as form
 use Rattle.logic_term.specs.declared.term.TermNode.{TermNode}
@@ -18,7 +18,8 @@ term_of (node.Truth b) = truth b
 term_of (node.Make c ts) = apply (made c) (terms_of ts.items)
 term_of (node.Unary op a) = one (unary_operator op) a
 term_of (node.Binary op a b) = two (binary_operator op) a b
-term_of (node.Forall x s a) = forall x s a
+term_of (node.Choice c a b) = if_else c a b
+term_of (node.Quantified q x s a) = bind (quantifier q) x s a
 
 -- the same of parts that are lent
 abbrev pub term_of_form : TermForm → Term
@@ -28,7 +29,8 @@ term_of_form (form.Truth b) = truth b
 term_of_form (form.Make c ts) = apply (made c) (terms_of ts.now)
 term_of_form (form.Unary op a) = one (unary_operator op) a.now
 term_of_form (form.Binary op a b) = two (binary_operator op) a.now b.now
-term_of_form (form.Forall x s a) = forall x s.now a.now
+term_of_form (form.Choice c a b) = if_else c.now a.now b.now
+term_of_form (form.Quantified q x s a) = bind (quantifier q) x s.now a.now
 
 abbrev mutual
   pub term_size : Term → ℕ

@@ -1,10 +1,10 @@
 ghost use Rattle.std.specs.Prelude.{◌≡◌, IfOk};
 ghost use Rattle.logic_term.specs.Ty.{math_int};
 ghost use Rattle.logic_term.specs.TermView.{terms_of};
-ghost use Rattle.logic_term.specs.TermOperator.{unary_operator, binary_operator};
-ghost use Rattle.logic_term.specs.Term.{apply, one, two, made, var, lit, truth, unit, model, negative, not, calculate, is_less, is_at_most, is_equal, and, or, implies, forall};
+ghost use Rattle.logic_term.specs.TermOperator.{unary_operator, binary_operator, quantifier};
+ghost use Rattle.logic_term.specs.Term.{apply, one, two, made, var, lit, truth, unit, model, negative, not, calculate, is_less, is_at_most, is_equal, and, or, implies, forall, exists, part, if_else, bind};
 
-use crate::kinds::{Ctor, TermBinary, TermUnary};
+use crate::kinds::{Ctor, Quantifier, TermBinary, TermUnary};
 use crate::term::{Sort, Term, TermNode};
 use crate::ty::Ty;
 use source_kinds::ArithOp;
@@ -129,6 +129,44 @@ impl Term {
     pub fn forall(alloc: Global, name: Name, sort: Sort, body: Term) -> Result<Term, NoMemory>
         ensures { IfOk result (λ t. t ≡ forall name sort body) }
     {
-        Term::of(alloc, TermNode::Forall(name, sort, body))
+        Term::quantified(alloc, Quantifier::Forall, name, sort, body)
+    }
+
+    pub fn exists(alloc: Global, name: Name, sort: Sort, body: Term) -> Result<Term, NoMemory>
+        ensures { IfOk result (λ t. t ≡ exists name sort body) }
+    {
+        Term::quantified(alloc, Quantifier::Exists, name, sort, body)
+    }
+
+    /// The formula over all values of the sort, or over some.
+    pub fn quantified(
+        alloc: Global,
+        word: Quantifier,
+        name: Name,
+        sort: Sort,
+        body: Term,
+    ) -> Result<Term, NoMemory>
+        ensures { IfOk result (λ t. t ≡ bind (quantifier word) name sort body) }
+    {
+        Term::of(alloc, TermNode::Quantified(word, name, sort, body))
+    }
+
+    /// The part of this number, from 0, of a tuple or a struct.
+    pub fn field(alloc: Global, t: Term, number: u32) -> Result<Term, NoMemory>
+        ensures { IfOk result (λ m. m ≡ part number t) }
+    {
+        Term::unary(alloc, TermUnary::Field(number), t)
+    }
+
+    /// The first side where the condition is true, else the second.
+    pub fn choice(
+        alloc: Global,
+        condition: Term,
+        first: Term,
+        second: Term,
+    ) -> Result<Term, NoMemory>
+        ensures { IfOk result (λ t. t ≡ if_else condition first second) }
+    {
+        Term::of(alloc, TermNode::Choice(condition, first, second))
     }
 }

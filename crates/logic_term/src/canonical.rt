@@ -80,7 +80,12 @@ impl Term {
                 push_within(b, left)?;
                 push_within(a, left)
             }
-            TermNode::Forall(name, _, t) => {
+            TermNode::Choice(c, a, b) => {
+                push_within(b, left)?;
+                push_within(a, left)?;
+                push_within(c, left)
+            }
+            TermNode::Quantified(_, name, _, t) => {
                 bound.push(*name)?;
                 left.push(Scoped::Left)?;
                 push_within(t, left)

@@ -3,8 +3,8 @@
 
 ghost use Rattle.logic_term.specs.Laws.{PutTermsCountAsValues, APutTermCountsAsValue, PlacedTermsCountAsValues, BoundNamesDoNotCount, CanonicalFormsKeepValues, FreeNamesAloneCount, OtherNamesDoNotCount, SortsKeepValues};
 ghost use Rattle.logic_term.specs.Sorted.{SortsAreKept};
-ghost use Rattle.logic_term.specs.Laws.{ValuesAreSingle, ValuesAreSure, ValuesOfMade, ValueOfUnit, NormalFormsKeepValues};
-ghost use Rattle.logic_term.specs.Laws.{TruthOfConstants, TruthOfNot, TruthOfAnd, TruthOfOr, TruthOfImplies, TruthOfForall, TruthOfLess, TruthOfAtMost, TruthOfEqual};
+ghost use Rattle.logic_term.specs.Laws.{ValuesAreSingle, ValuesAreSure, ValuesOfMade, ValueOfUnit, ValuesOfParts, ValuesOfChoices, NormalFormsKeepValues};
+ghost use Rattle.logic_term.specs.Laws.{TruthOfConstants, TruthOfNot, TruthOfAnd, TruthOfOr, TruthOfImplies, TruthOfForall, TruthOfExists, TruthOfLess, TruthOfAtMost, TruthOfEqual};
 
 /// Substitution: a term with terms for its names, all at once, has the values that it has where the names stand for the values of
 /// these terms. The same holds of one name, and of what is reduced on the way.
@@ -50,6 +50,16 @@ pub fn values_of_made()
     ensures unit { ValueOfUnit }
 {}
 
+/// A part of a value is the value of that number in it.
+pub fn values_of_parts()
+    ensures { ValuesOfParts }
+{}
+
+/// An `if` has the values of its first side where its condition is true, and of its second where it is not.
+pub fn values_of_choices()
+    ensures { ValuesOfChoices }
+{}
+
 /// A type and its sort have the same values, whatever is declared.
 pub fn sorts_keep_values()
     ensures { SortsKeepValues }
@@ -74,9 +84,11 @@ pub fn truth_of_connectives()
     ensures implication { TruthOfImplies }
 {}
 
-/// A universal formula is true if its body is true at every value of the sort.
-pub fn truth_of_forall()
-    ensures { TruthOfForall }
+/// A universal formula is true if its body is true at every value of the sort, and an existential one if its body cannot fail to be
+/// true at some value of the sort.
+pub fn truth_of_quantifiers()
+    ensures every { TruthOfForall }
+    ensures some { TruthOfExists }
 {}
 
 /// When comparisons are true of the values of their two sides.

@@ -20,13 +20,14 @@ pub use context::{Context, Entry};
 pub use declaration::{AdtDecl, FieldDecl, VariantDecl};
 pub use goal::Goal;
 pub use kinds::{
-    AdtId, Ctor, FnKind, Label, Label2, LogicFn, Region, TermBinary, TermUnary, TraitId, TyUnary,
+    AdtId, Ctor, FnKind, Label, Label2, LogicFn, Quantifier, Region, TermBinary, TermUnary,
+    TraitId, TyUnary,
 };
 pub use laws::{
     bound_names_do_not_count, canonical_forms_keep_values, free_names_alone_count,
     normal_forms_keep_values, other_names_do_not_count, put_terms_count_as_values, sorts_are_kept,
-    sorts_keep_values, truth_of_comparisons, truth_of_connectives, truth_of_forall,
-    values_are_single, values_are_sure, values_of_made,
+    sorts_keep_values, truth_of_comparisons, truth_of_connectives, truth_of_quantifiers,
+    values_are_single, values_are_sure, values_of_choices, values_of_made, values_of_parts,
 };
 pub use obligation::{Bounds, Contract, Instance, Obligation};
 pub use pattern::{Binding, BindingKind, PatNode, PatPath, PatStep, TypedPat};

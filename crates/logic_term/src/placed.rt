@@ -1,16 +1,16 @@
 //! Terms for the free names of a term, numbers for its bound ones, and the normal form, in one walk.
 ghost use Rattle.std.specs.Prelude.{◌≡◌, [], ◌∷◌, ◌++◌, IfOk, OnOk, suc, length, map};
-ghost use Rattle.logic_term.specs.Term.{every, made, modeled, no_terms, and_term};
+ghost use Rattle.logic_term.specs.Term.{choice, field, made, modeled, no_terms, and_term};
 ghost use Rattle.logic_term.specs.TermView.{terms_of};
-ghost use Rattle.logic_term.specs.TermOperator.{unary_operator, binary_operator};
-ghost use Rattle.logic_term.specs.Simplified.{simplified, formed};
+ghost use Rattle.logic_term.specs.TermOperator.{unary_operator, binary_operator, quantifier};
+ghost use Rattle.logic_term.specs.Simplified.{nth_term, simplified, formed};
 ghost use Rattle.logic_term.specs.Placed.{placed};
 ghost use Rattle.logic_term.specs.Subst.{look, placing, numbers_before};
 ghost use Rattle.logic_term.specs.Tasks.{enter, apply_last, bind_last, form_operator, form_count, step, steps, steps_of, binds_of, depth_in, made_of, with_last, applied, bound_over};
 ghost use Rattle.logic_term.specs.Normal.{reduced};
 ghost use Rattle.logic_term.specs.Laws.{HasValuesOf};
 
-use crate::kinds::{Ctor, TermBinary, TermUnary};
+use crate::kinds::{Ctor, Quantifier, TermBinary, TermUnary};
 use crate::subst::{Renaming, Replacement};
 use crate::term::{Sort, Term, TermNode, quantified};
 use crate::ty::TyNode;
@@ -65,12 +65,34 @@ fn model_of(alloc: Global, t: Term) -> Result<Term, NoMemory>
     Term::model(alloc, t)
 }
 
+/// The part of this number of a term, which is that part where the term is made of parts.
+fn field_of(alloc: Global, number: u32, t: Term) -> Result<Term, NoMemory>
+    ensures { IfOk result (λ m. m ≡ simplified (field number) (and_term t no_terms)) }
+{
+    if let TermNode::Make(_, parts) = t.node() {
+        return nth_of(alloc, parts, number as usize);
+    }
+    Term::field(alloc, t, number)
+}
+
+/// The term of this number, from 0; `false` past the end.
+#[tactic(auto, using(crate::proofs::Walking::nth_there, crate::proofs::Walking::nth_gone))]
+fn nth_of(alloc: Global, parts: &[Term], number: usize) -> Result<Term, NoMemory>
+    ensures { IfOk result (λ t. t ≡ nth_term (terms_of parts.now) number) }
+{
+    if number < parts.len() {
+        return parts[number].share();
+    }
+    Term::truth(alloc, false)
+}
+
 /// The operator at a term, reduced where that is asked.
 fn unary_form(alloc: Global, reduces: bool, op: TermUnary, t: Term) -> Result<Term, NoMemory>
     ensures { IfOk result (λ r. r ≡ formed reduces (unary_operator op) (and_term t no_terms)) }
 {
     match (reduces, op) {
         (true, TermUnary::Model) => model_of(alloc, t),
+        (true, TermUnary::Field(number)) => field_of(alloc, number, t),
         _ => Term::unary(alloc, op, t),
     }
 }
@@ -88,6 +110,23 @@ fn binary_form(
 {
     let _ = reduces;
     Term::binary(alloc, op, a, b)
+}
+
+/// `if` of the terms, reduced where that is asked: where the condition is `true` or `false`, one of the sides.
+fn choice_form(
+    alloc: Global,
+    reduces: bool,
+    condition: Term,
+    first: Term,
+    second: Term,
+) -> Result<Term, NoMemory>
+    ensures { IfOk result (λ r. r ≡ formed reduces choice (and_term condition (and_term first (and_term second no_terms)))) }
+{
+    match (reduces, condition.node()) {
+        (true, TermNode::Truth(true)) => Ok(first),
+        (true, TermNode::Truth(false)) => Ok(second),
+        _ => Term::choice(alloc, condition, first, second),
+    }
 }
 
 /// What is made of the parts, reduced where that is asked.
@@ -141,10 +180,10 @@ impl Term {
                 Task::Form(form) => {
                     form.apply(alloc, reduces, &mut done)?;
                 }
-                Task::Quantify(number, sort) => {
+                Task::Quantify(word, number, sort) => {
                     bound.pop();
                     depth = number;
-                    quantify(alloc, number, sort, &mut done)?;
+                    quantify(alloc, word, number, sort, &mut done)?;
                 }
             }
         }
@@ -173,7 +212,10 @@ impl Term {
             TermNode::Make(ctor, parts) => push_make(*ctor, parts, tasks),
             TermNode::Unary(op, t) => push_over(Form::Unary(*op), t, tasks),
             TermNode::Binary(op, a, b) => push_binary(*op, a, b, tasks),
-            TermNode::Forall(name, sort, t) => open(*name, sort, t, depth, bound, tasks),
+            TermNode::Choice(c, a, b) => push_choice(c, a, b, tasks),
+            TermNode::Quantified(word, name, sort, t) => {
+                open(*word, *name, sort, t, depth, bound, tasks)
+            }
         }
     }
 }
@@ -185,6 +227,7 @@ impl Term {
 enum Form {
     Unary(TermUnary),
     Binary(TermBinary),
+    Choice,
     /// Of so many parts.
     Make(Ctor, usize),
 }
@@ -195,7 +238,7 @@ enum Task<'a> {
     Enter(&'a Term),
     Form(Form),
     /// The term that was made last is the body of a quantifier, whose name has this number.
-    Quantify(u64, &'a Sort),
+    Quantify(Quantifier, u64, &'a Sort),
 }
 
 fn push_task<'a>(task: Task<'a>, tasks: &mut Vec<Task<'a>>) -> Result<(), NoMemory>
@@ -244,6 +287,19 @@ fn push_binary<'a>(
     push_task(Task::Enter(a), tasks)
 }
 
+fn push_choice<'a>(
+    condition: &'a Term,
+    first: &'a Term,
+    second: &'a Term,
+    tasks: &mut Vec<Task<'a>>,
+) -> Result<(), NoMemory>
+    ensures { IfOk result (λ _. steps tasks.new.items ≡ enter condition.now ∷ enter first.now ∷ enter second.now ∷ apply_last choice 3 ∷ steps tasks.old.items) }
+{
+    push_over(Form::Choice, second, tasks)?;
+    push_task(Task::Enter(first), tasks)?;
+    push_task(Task::Enter(condition), tasks)
+}
+
 fn push_make<'a>(ctor: Ctor, parts: &'a [Term], tasks: &mut Vec<Task<'a>>) -> Result<(), NoMemory>
     ensures { IfOk result (λ _. steps tasks.new.items ≡ map enter parts.now ++ apply_last (made ctor) (length parts.now) ∷ steps tasks.old.items) }
 {
@@ -256,6 +312,7 @@ fn push_make<'a>(ctor: Ctor, parts: &'a [Term], tasks: &mut Vec<Task<'a>>) -> Re
 
 /// The body of a quantifier is next, whose name gets the number `depth`.
 fn open<'a>(
+    word: Quantifier,
     name: Name,
     sort: &'a Sort,
     body: &'a Term,
@@ -263,7 +320,7 @@ fn open<'a>(
     bound: &mut Vec<Renaming>,
     tasks: &mut Vec<Task<'a>>,
 ) -> Result<(), NoMemory>
-    ensures tasks { IfOk result (λ _. steps tasks.new.items ≡ enter body.now ∷ bind_last every depth.old sort.now ∷ steps tasks.old.items) }
+    ensures tasks { IfOk result (λ _. steps tasks.new.items ≡ enter body.now ∷ bind_last (quantifier word) depth.old sort.now ∷ steps tasks.old.items) }
     ensures bound { IfOk result (λ _. bound.new.items ≡ bound.old.items ++ record { from = name; to = record { 0 = depth.old } } ∷ []) }
     ensures depth { IfOk result (λ _. depth.new ≡ suc depth.old) }
 {
@@ -273,7 +330,7 @@ fn open<'a>(
         from: name,
         to: Name(number),
     })?;
-    push_task(Task::Quantify(number, sort), tasks)?;
+    push_task(Task::Quantify(word, number, sort), tasks)?;
     push_task(Task::Enter(body), tasks)
 }
 
@@ -285,6 +342,7 @@ impl Form {
         match self {
             Form::Unary(op) => apply_unary(alloc, reduces, op, done),
             Form::Binary(op) => apply_binary(alloc, reduces, op, done),
+            Form::Choice => apply_choice(alloc, reduces, done),
             Form::Make(ctor, count) => apply_made(alloc, reduces, ctor, count, done),
         }
     }
@@ -322,6 +380,17 @@ fn apply_binary(
     Ok(())
 }
 
+#[tactic(auto, using(crate::proofs::TasksWalk::three_last))]
+fn apply_choice(alloc: Global, reduces: bool, done: &mut Vec<Term>) -> Result<(), NoMemory>
+    ensures { IfOk result (λ _. done.new.items ≡ with_last (applied reduces choice) 3 done.old.items) }
+{
+    let (Some(second), Some(first), Some(condition)) = (done.pop(), done.pop(), done.pop()) else {
+        return Err(NoMemory);
+    };
+    done.push(choice_form(alloc, reduces, condition, first, second)?)?;
+    Ok(())
+}
+
 fn apply_made(
     alloc: Global,
     reduces: bool,
@@ -338,19 +407,26 @@ fn apply_made(
 }
 
 #[tactic(auto, using(crate::proofs::TasksWalk::one_last))]
-fn quantify(alloc: Global, number: u64, sort: &Sort, done: &mut Vec<Term>) -> Result<(), NoMemory>
-    ensures { IfOk result (λ _. done.new.items ≡ with_last (bound_over every number sort.now) 1 done.old.items) }
+fn quantify(
+    alloc: Global,
+    word: Quantifier,
+    number: u64,
+    sort: &Sort,
+    done: &mut Vec<Term>,
+) -> Result<(), NoMemory>
+    ensures { IfOk result (λ _. done.new.items ≡ with_last (bound_over (quantifier word) number sort.now) 1 done.old.items) }
 {
     let Some(body) = done.pop() else {
         return Err(NoMemory);
     };
-    done.push(quantified(alloc, Name(number), sort, body)?)?;
+    done.push(quantified(alloc, word, Name(number), sort, body)?)?;
     Ok(())
 }
 
 // ---- the normal form
 
-/// The normal form of the term: `@` of a literal is the unbounded integer, and bound names are numbered as in the canonical form. It has
+/// The normal form of the term: `@` of a literal is the unbounded integer, a part of what is made of parts is that part, `if` of `true` or
+/// `false` is one of its sides, and bound names are numbered as in the canonical form. It has
 /// the values of the term, whatever the values of names.
 pub fn reduce(alloc: Global, t: &Term) -> Result<Term, NoMemory>
     ensures form { IfOk result (λ r. r ≡ reduced t.now) }

@@ -53,7 +53,7 @@ impl Term {
         ensures { result ≡ is_bound_by name self.now }
     {
         match self.node() {
-            TermNode::Forall(other, _, _) => name.0 == other.0,
+            TermNode::Quantified(_, other, _, _) => name.0 == other.0,
             _ => false,
         }
     }
@@ -78,7 +78,7 @@ impl Term {
     {
         match self.node() {
             TermNode::Var(name) => name.0.checked_add(1).ok_or(NoMemory),
-            TermNode::Forall(name, _, _) => name.0.checked_add(1).ok_or(NoMemory),
+            TermNode::Quantified(_, name, _, _) => name.0.checked_add(1).ok_or(NoMemory),
             _ => Ok(0),
         }
     }
@@ -95,7 +95,12 @@ impl Term {
                 push_one(b, left)?;
                 push_one(a, left)
             }
-            TermNode::Forall(_, _, t) => push_one(t, left),
+            TermNode::Choice(c, a, b) => {
+                push_one(b, left)?;
+                push_one(a, left)?;
+                push_one(c, left)
+            }
+            TermNode::Quantified(_, _, _, t) => push_one(t, left),
             _ => Ok(()),
         }
     }

@@ -1,10 +1,11 @@
 ghost use Rattle.std.specs.Prelude.{◌≡◌, ◌↔◌, ◌<◌, ◌≤◌, ◌+◌, ◌∷◌, ◌++◌, false, length, IfOk, IsTrue, MatchOption};
-ghost use Rattle.logic_term.specs.Term.{lit, forall, and, implies, is_conjunction, is_implication, is_quantified};
+ghost use Rattle.logic_term.specs.TermOperator.{quantifier};
+ghost use Rattle.logic_term.specs.Term.{lit, bind, forall, and, implies, is_conjunction, is_implication, is_quantified};
 ghost use Rattle.logic_term.specs.TermView.{term_of, term_of_form, terms_of};
 ghost use Rattle.logic_term.specs.Pairs.{firsts, seconds, top};
 ghost use Rattle.logic_term.specs.Walk.{parts, weight, weights};
 
-use crate::kinds::{Ctor, TermBinary, TermUnary};
+use crate::kinds::{Ctor, Quantifier, TermBinary, TermUnary};
 use crate::ty::Ty;
 use std::alloc::Global;
 use std::marker::Model;
@@ -34,7 +35,9 @@ pub(crate) enum TermNode {
     Make(Ctor, Vec<Term>),
     Unary(TermUnary, Term),
     Binary(TermBinary, Term, Term),
-    Forall(Name, Sort, Term),
+    /// `if` with its condition and its sides.
+    Choice(Term, Term, Term),
+    Quantified(Quantifier, Name, Sort, Term),
 }
 
 /// What a term is at its top; its parts are lent.
@@ -48,7 +51,9 @@ pub enum TermForm<'a> {
     Make(Ctor, &'a [Term]),
     Unary(TermUnary, &'a Term),
     Binary(TermBinary, &'a Term, &'a Term),
-    Forall(Name, &'a Sort, &'a Term),
+    /// `if` with its condition and its sides.
+    Choice(&'a Term, &'a Term, &'a Term),
+    Quantified(Quantifier, Name, &'a Sort, &'a Term),
 }
 
 impl Model for Term {
@@ -112,7 +117,12 @@ fn move_parts(node: TermNode, left: &mut Vec<Term>)
             move_one(b, left);
             move_one(a, left);
         }
-        TermNode::Forall(_, _, t) => move_one(t, left),
+        TermNode::Choice(c, a, b) => {
+            move_one(b, left);
+            move_one(a, left);
+            move_one(c, left);
+        }
+        TermNode::Quantified(_, _, _, t) => move_one(t, left),
     }
 }
 
@@ -162,7 +172,10 @@ impl Term {
             TermNode::Make(ctor, parts) => TermForm::Make(*ctor, parts.as_slice()),
             TermNode::Unary(op, a) => TermForm::Unary(*op, a),
             TermNode::Binary(op, a, b) => TermForm::Binary(*op, a, b),
-            TermNode::Forall(name, sort, body) => TermForm::Forall(*name, sort, body),
+            TermNode::Choice(c, a, b) => TermForm::Choice(c, a, b),
+            TermNode::Quantified(word, name, sort, body) => {
+                TermForm::Quantified(*word, *name, sort, body)
+            }
         }
     }
 
@@ -212,7 +225,9 @@ impl Term {
         ensures { MatchOption result (is_quantified self.now ≡ false) (λ p. self.now ≡ forall p.0 p.1.now p.2.now) }
     {
         match &*self.node {
-            TermNode::Forall(name, sort, body) => Some((*name, sort, body)),
+            TermNode::Quantified(Quantifier::Forall, name, sort, body) => {
+                Some((*name, sort, body))
+            }
             _ => None,
         }
     }
@@ -244,7 +259,10 @@ impl Term {
             (TermNode::Make(c, ts), TermNode::Make(d, us)) => c == d && ts.len() == us.len(),
             (TermNode::Unary(o, _), TermNode::Unary(p, _)) => o == p,
             (TermNode::Binary(o, _, _), TermNode::Binary(p, _, _)) => o == p,
-            (TermNode::Forall(x, s, _), TermNode::Forall(y, q, _)) => x.0 == y.0 && s.same(q),
+            (TermNode::Choice(_, _, _), TermNode::Choice(_, _, _)) => true,
+            (TermNode::Quantified(o, x, s, _), TermNode::Quantified(p, y, q, _)) => {
+                o == p && x.0 == y.0 && s.same(q)
+            }
             _ => false,
         }
     }
@@ -267,7 +285,14 @@ impl Term {
                 push_pair(b, d, left)?;
                 push_pair(a, c, left)
             }
-            (TermNode::Forall(_, _, a), TermNode::Forall(_, _, b)) => push_pair(a, b, left),
+            (TermNode::Choice(c, a, b), TermNode::Choice(d, e, f)) => {
+                push_pair(b, f, left)?;
+                push_pair(a, e, left)?;
+                push_pair(c, d, left)
+            }
+            (TermNode::Quantified(_, _, _, a), TermNode::Quantified(_, _, _, b)) => {
+                push_pair(a, b, left)
+            }
             _ => Ok(()),
         }
     }
@@ -303,15 +328,16 @@ fn push_all_pairs<'a>(
     Ok(())
 }
 
-/// The universal formula over a copy of the sort.
+/// The quantified formula over a copy of the sort.
 pub(crate) fn quantified(
     alloc: Global,
+    word: Quantifier,
     name: Name,
     sort: &Sort,
     body: Term,
 ) -> Result<Term, NoMemory>
-    ensures { IfOk result (λ t. t ≡ forall name sort.now body) }
+    ensures { IfOk result (λ t. t ≡ bind (quantifier word) name sort.now body) }
 {
     let sort = sort.copy(alloc)?;
-    Term::forall(alloc, name, sort, body)
+    Term::quantified(alloc, word, name, sort, body)
 }

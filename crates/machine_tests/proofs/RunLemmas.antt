@@ -9,7 +9,7 @@ use Rattle.source_kinds.specs.declared.kinds.IntKind.{IntKind}
 use Rattle.logic_term.specs.declared.kinds.Ctor.TheVariants.{Tuple}
 use Rattle.source_kinds.specs.declared.kinds.IntKind.TheVariants.{I32}
 use Rattle.logic_term.specs.declared.kinds.Label.{Label}
-use Rattle.source_kinds.specs.Range.{fits}
+use Rattle.source_kinds.specs.Range.{fits, widens}
 use Rattle.logic_term.specs.Sort.{instance}
 use Rattle.logic_term.specs.Theory.{Theory, declared, nothing_declared}
 use Rattle.logic_term.specs.Ty.{Ty, Tys, int, bool, no_tys, and_ty, unit_ty}
@@ -17,7 +17,7 @@ use Rattle.mir_ir.specs.declared.place.Lit.TheVariants as lit
 use Rattle.mir_ir.specs.declared.place.Operand.{Operand}
 use Rattle.mir_ir.specs.declared.place.Operand.TheVariants.{Copy, Const}
 use Rattle.mir_ir.specs.declared.statement.Rvalue.{Rvalue}
-use Rattle.mir_ir.specs.declared.statement.Rvalue.TheVariants.{Binary, Neg, Not, Make}
+use Rattle.mir_ir.specs.declared.statement.Rvalue.TheVariants.{Binary, Neg, Not, Widen, Make}
 use Rattle.mir_ir.specs.declared.statement.Statement.{Statement}
 use Rattle.mir_ir.specs.declared.body.Block.{Block}
 use Rattle.mir_ir.specs.declared.body.Body.{Body}
@@ -152,6 +152,9 @@ binary_sound k op n n_fits =
 
 pub neg_sound : (k : IntKind) → IsSigned k → AreSound (alone (sample (int k) (int k) (Neg (Copy (whole 1)))))
 neg_sound k signed = sample_sound (int k) (int k) (Neg (Copy (whole 1))) (k, signed, (refl, refl), refl) refl
+
+pub wide_sound : (j k : IntKind) → widens j k ≡ true → AreSound (alone (sample (int k) (int j) (Widen (Copy (whole 1)) k)))
+wide_sound j k wide = sample_sound (int k) (int j) (Widen (Copy (whole 1)) k) (j, wide, (refl, refl), refl) refl
 
 pub not_sound : AreSound (alone (sample bool bool (Not (Copy (whole 1)))))
 not_sound = sample_sound bool bool (Not (Copy (whole 1))) ((refl, refl), refl) refl
@@ -307,6 +310,12 @@ neg_samples bodies answer takes first k are is_answer is_takes is_first signed =
     subst AreSound
     (sym (are ∙ ap (λ ty. alone (sample ty takes (Neg first))) is_answer ∙ ap (λ ty. alone (sample (int k) ty (Neg first))) is_takes ∙ ap (λ o. alone (sample (int k) (int k) (Neg o))) is_first))
     (neg_sound k signed)
+
+pub wide_samples : (bodies : Bodies) (answer takes : Ty) (first : Operand) (j k : IntKind) → bodies ≡ alone (sample answer takes (Widen first k)) → answer ≡ int k → takes ≡ int j → first ≡ Copy (whole 1) → widens j k ≡ true → AreSound bodies
+wide_samples bodies answer takes first j k are is_answer is_takes is_first wide =
+    subst AreSound
+    (sym (are ∙ ap (λ ty. alone (sample ty takes (Widen first k))) is_answer ∙ ap (λ ty. alone (sample (int k) ty (Widen first k))) is_takes ∙ ap (λ o. alone (sample (int k) (int j) (Widen o k))) is_first))
+    (wide_sound j k wide)
 
 pub not_samples : (bodies : Bodies) (first : Operand) → bodies ≡ alone (sample bool bool (Not first)) → first ≡ Copy (whole 1) → AreSound bodies
 not_samples bodies first are is_first = subst AreSound (sym (are ∙ ap (λ o. alone (sample bool bool (Not o))) is_first)) not_sound

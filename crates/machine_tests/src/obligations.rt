@@ -213,6 +213,22 @@ fn copied(alloc: Global, local: u32) -> Operand {
     })
 }
 
+/// The answer gets the value, at byte `start`.
+fn answer_gets(alloc: Global, start: u32, value: Rvalue) -> Result<Items<Statement>, NoMemory>
+    requires { start < 80 }
+{
+    let place = Place {
+        local: 0,
+        path: Items::new(alloc),
+    };
+    let span = Span {
+        start,
+        end: start + 1,
+    };
+    let kind = StatementKind::Assign(place, value);
+    one(alloc, Statement { span, kind })
+}
+
 /// `answer = x op 1`, where the operator stands at byte `start`.
 fn answer_is(
     alloc: Global,
@@ -222,18 +238,8 @@ fn answer_is(
 ) -> Result<Items<Statement>, NoMemory>
     requires { start < 80 }
 {
-    let place = Place {
-        local: 0,
-        path: Items::new(alloc),
-    };
     let number = Operand::Const(Lit::Int(1, kind));
-    let value = Rvalue::Binary(op, copied(alloc, 1), number);
-    let span = Span {
-        start,
-        end: start + 1,
-    };
-    let kind = StatementKind::Assign(place, value);
-    one(alloc, Statement { span, kind })
+    answer_gets(alloc, start, Rvalue::Binary(op, copied(alloc, 1), number))
 }
 
 // ---- contracts
@@ -351,6 +357,8 @@ fn owed_by(alloc: Global, body: &Body) -> Result<Vec<Obligation>, PassError>
 enum Sample {
     /// `answer = x op 1` over the integers of the kind.
     Operation(IntKind, BinaryOp),
+    /// `answer = x as T`, from integers of the first kind to those of the second.
+    Cast(IntKind, IntKind),
     Panic,
     /// It adds on one side of a branch and divides on the other.
     Branch,
@@ -363,6 +371,14 @@ enum Sample {
 fn of_operation(alloc: Global, kind: IntKind, op: BinaryOp) -> Result<Vec<Obligation>, PassError> {
     let statements = answer_is(alloc, 10, kind, op)?;
     let body = straight(alloc, locals(alloc, kind)?, statements)?;
+    owed_by(alloc, body.get())
+}
+
+fn of_cast(alloc: Global, narrow: IntKind, wide: IntKind) -> Result<Vec<Obligation>, PassError> {
+    let statements = answer_gets(alloc, 10, Rvalue::Widen(copied(alloc, 1), wide))?;
+    let mut types = one(alloc, Ty::int(wide))?;
+    types.push(Ty::int(narrow))?;
+    let body = straight(alloc, types, statements)?;
     owed_by(alloc, body.get())
 }
 
@@ -404,6 +420,7 @@ fn of_call(alloc: Global) -> Result<Vec<Obligation>, PassError> {
 fn made_of(alloc: Global, sample: Sample) -> Result<Vec<Obligation>, PassError> {
     match sample {
         Sample::Operation(kind, op) => of_operation(alloc, kind, op),
+        Sample::Cast(narrow, wide) => of_cast(alloc, narrow, wide),
         Sample::Panic => of_panic(alloc),
         Sample::Branch => of_branch(alloc),
         Sample::Loop => of_loop(alloc),
@@ -422,12 +439,16 @@ const IN_RANGE: &[u8] =
 const ANSWERED: &[u8] =
     b"(forall<v1: i32> ((v1@ < 100) ==> (forall<v2: i32> ((v2@ == (v1@ + 1)) ==> (v2@ == (v1@ + 1))))))";
 
+/// For each value of the wider type that is `x@` that it is `x@ + 1`.
+const CAST: &[u8] =
+    b"(forall<v1: u8> ((v1@ < 100) ==> (forall<v2: i16> ((v2@ == v1@) ==> (v2@ == (v1@ + 1))))))";
+
 const NEVER: &[u8] = b"(forall<v1: i32> ((v1@ < 100) ==> false))";
 
 const SMALL: &[u8] = b"(forall<v1: i32> ((v1@ < 100) ==> (v1@ < 100)))";
 
 /// What is owed, in order.
-const SAMPLES: [(Sample, &'static [Owed]); 7] = [
+const SAMPLES: [(Sample, &'static [Owed]); 8] = [
     (
         Sample::Operation(IntKind::I32, BinaryOp::Add),
         &[
@@ -446,6 +467,10 @@ const SAMPLES: [(Sample, &'static [Owed]); 7] = [
     (
         Sample::Operation(IntKind::U32, BinaryOp::Rem),
         &[(Kind::Division, 10, b""), (Kind::Ensures, 80, b"")],
+    ),
+    (
+        Sample::Cast(IntKind::U8, IntKind::I16),
+        &[(Kind::Ensures, 80, CAST)],
     ),
     (Sample::Panic, &[(Kind::Unreachable, 90, NEVER)]),
     // The true side comes first.

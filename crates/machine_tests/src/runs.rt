@@ -339,6 +339,16 @@ fn negation(alloc: Global, kind: IntKind, x: i128) -> Result<Came, Fail>
     run_of(alloc, bodies.get(), 0, integer(x), 7)
 }
 
+/// `x as T`, from one integer type to one that has each of its values.
+fn widening(alloc: Global, narrow: IntKind, wide: IntKind, x: i128) -> Result<Came, Fail> {
+    if !narrow.widens_to(wide) || !is_of(narrow, x) {
+        return Ok(Came::Nowhere);
+    }
+    let value = Rvalue::Widen(copied(alloc, 1), wide);
+    let bodies = sample(alloc, Ty::int(wide), Ty::int(narrow), value)?;
+    run_of(alloc, bodies.get(), 0, integer(x), 7)
+}
+
 /// The number of the body that calls the absolute value, or of the absolute value itself.
 fn number_of(calls: bool) -> u32
     ensures { result < 2 }
@@ -445,6 +455,33 @@ fn operators_at_the_ends_of_types(rt: HostRuntime) -> Result<(), Fail> {
     }
     assert!(rt; negation(rt.alloc(), IntKind::I8, -128)? == OVERFLOW);
     assert!(rt; negation(rt.alloc(), IntKind::I8, 127)? == Came::Integer(-127));
+    Ok(())
+}
+
+/// Integers that are cast, from a type to a wider one, and what they come to.
+const CASTS: [(IntKind, IntKind, i128, Came); 4] = [
+    (IntKind::U8, IntKind::I16, 255, Came::Integer(255)),
+    (
+        IntKind::I32,
+        IntKind::I64,
+        -2147483648,
+        Came::Integer(-2147483648),
+    ),
+    (
+        IntKind::Usize,
+        IntKind::U64,
+        18446744073709551615,
+        Came::Integer(18446744073709551615),
+    ),
+    (IntKind::I8, IntKind::U64, 5, Came::Nowhere),
+];
+
+#[test]
+fn casts_keep_the_integer(rt: HostRuntime) -> Result<(), Fail> {
+    for (narrow, wide, x, wanted) in &CASTS {
+        let came = widening(rt.alloc(), *narrow, *wide, *x)?;
+        assert!(rt; came == *wanted, "{x}");
+    }
     Ok(())
 }
 

@@ -6,7 +6,7 @@ use Rattle.logic_term.specs.Ty.{Ty}
 use Rattle.mir_ir.specs.declared.place.Operand.{Operand}
 use Rattle.mir_ir.specs.declared.place.Operand.TheVariants.{Copy, Move, Const}
 use Rattle.mir_ir.specs.declared.statement.Rvalue.{Rvalue}
-use Rattle.mir_ir.specs.declared.statement.Rvalue.TheVariants.{Use, Binary, Neg, Not, Make}
+use Rattle.mir_ir.specs.declared.statement.Rvalue.TheVariants.{Use, Binary, Neg, Not, Widen, Make}
 use Rattle.mir_ir.specs.declared.statement.Statement.{Statement}
 use Rattle.mir_ir.specs.declared.statement.StatementKind.{StatementKind}
 use Rattle.mir_ir.specs.declared.statement.StatementKind.TheVariants.{Assign, Dead}
@@ -83,6 +83,7 @@ can_evaluate (Use o) small large w h = can_take o small large w h
 can_evaluate (Binary op x y) small large w h = (can_take x small large w h.0, can_take y (taken x small) (taken x large) (taken_within x small large w) h.1)
 can_evaluate (Neg o) small large w h = can_take o small large w h
 can_evaluate (Not o) small large w h = can_take o small large w h
+can_evaluate (Widen o k) small large w h = can_take o small large w h
 can_evaluate (Make c os) small large w h = can_take_all os small large w h
 
 evaluated_within : (r : Rvalue) (small large : Locals) → Within small large → Within (evaluated r small) (evaluated r large)
@@ -90,6 +91,7 @@ evaluated_within (Use o) small large w = taken_within o small large w
 evaluated_within (Binary op x y) small large w = taken_within y (taken x small) (taken x large) (taken_within x small large w)
 evaluated_within (Neg o) small large w = taken_within o small large w
 evaluated_within (Not o) small large w = taken_within o small large w
+evaluated_within (Widen o k) small large w = taken_within o small large w
 evaluated_within (Make c os) small large w = all_taken_within os small large w
 
 can_run : (k : StatementKind) (small large : Locals) → Within small large → CanRun small k → CanRun large k

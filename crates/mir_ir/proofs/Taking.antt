@@ -6,7 +6,7 @@ use Rattle.logic_term.specs.declared.kinds.Label.{Label}
 use Rattle.mir_ir.specs.declared.place.Operand.{Operand}
 use Rattle.mir_ir.specs.declared.place.Operand.TheVariants.{Copy, Move, Const}
 use Rattle.mir_ir.specs.declared.statement.Rvalue.{Rvalue}
-use Rattle.mir_ir.specs.declared.statement.Rvalue.TheVariants.{Use, Binary, Neg, Not, Make}
+use Rattle.mir_ir.specs.declared.statement.Rvalue.TheVariants.{Use, Binary, Neg, Not, Widen, Make}
 use Rattle.mir_ir.specs.declared.statement.StatementKind.{StatementKind}
 use Rattle.mir_ir.specs.declared.statement.StatementKind.TheVariants.{Assign, Dead}
 use Rattle.mir_ir.specs.declared.terminator.TerminatorKind.{TerminatorKind}
@@ -46,6 +46,7 @@ CanEvaluate set (Use o) = CanTake set o
 CanEvaluate set (Binary op x y) = CanTake set x × CanTake (taken x set) y
 CanEvaluate set (Neg o) = CanTake set o
 CanEvaluate set (Not o) = CanTake set o
+CanEvaluate set (Widen o k) = CanTake set o
 CanEvaluate set (Make c os) = CanTakeAll set os
 
 abbrev pub evaluated : Rvalue → Locals → Locals
@@ -53,6 +54,7 @@ evaluated (Use o) set = taken o set
 evaluated (Binary op x y) set = taken y (taken x set)
 evaluated (Neg o) set = taken o set
 evaluated (Not o) set = taken o set
+evaluated (Widen o k) set = taken o set
 evaluated (Make c os) set = all_taken os set
 
 abbrev pub CanRun : Locals → StatementKind → Type 0
@@ -138,6 +140,7 @@ rvalue_done (Use o) there = operand_done o there
 rvalue_done (Binary op x y) there = done_both (acts_of_operand x) (acts_of_operand y) there ∙ ap (all_done (acts_of_operand y)) (operand_done x there) ∙ operand_done y (taken x there)
 rvalue_done (Neg o) there = operand_done o there
 rvalue_done (Not o) there = operand_done o there
+rvalue_done (Widen o k) there = operand_done o there
 rvalue_done (Make c os) there = operands_done os there
 
 from_rvalue : (r : Rvalue) (there : Locals) → CanDoAll there (acts_of_rvalue r) → CanEvaluate there r
@@ -148,6 +151,7 @@ from_rvalue (Binary op x y) there h = (
 )
 from_rvalue (Neg o) there h = from_operand o there h
 from_rvalue (Not o) there h = from_operand o there h
+from_rvalue (Widen o k) there h = from_operand o there h
 from_rvalue (Make c os) there h = from_operands os there h
 
 to_rvalue : (r : Rvalue) (there : Locals) → CanEvaluate there r → CanDoAll there (acts_of_rvalue r)
@@ -157,6 +161,7 @@ to_rvalue (Binary op x y) there h =
     (subst (λ (s : Locals). CanDoAll s (acts_of_operand y)) (sym (operand_done x there)) (to_operand y (taken x there) h.1))
 to_rvalue (Neg o) there h = to_operand o there h
 to_rvalue (Not o) there h = to_operand o there h
+to_rvalue (Widen o k) there h = to_operand o there h
 to_rvalue (Make c os) there h = to_operands os there h
 
 -- ---- statements

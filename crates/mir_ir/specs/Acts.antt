@@ -6,7 +6,7 @@ use Rattle.mir_ir.specs.declared.place.Place.{Place}
 use Rattle.mir_ir.specs.declared.place.Operand.{Operand}
 use Rattle.mir_ir.specs.declared.place.Operand.TheVariants.{Copy, Move, Const}
 use Rattle.mir_ir.specs.declared.statement.Rvalue.{Rvalue}
-use Rattle.mir_ir.specs.declared.statement.Rvalue.TheVariants.{Use, Binary, Neg, Not, Make}
+use Rattle.mir_ir.specs.declared.statement.Rvalue.TheVariants.{Use, Binary, Neg, Not, Widen, Make}
 use Rattle.mir_ir.specs.declared.statement.StatementKind.{StatementKind}
 use Rattle.mir_ir.specs.declared.statement.StatementKind.TheVariants.{Assign, Dead}
 use Rattle.mir_ir.specs.declared.terminator.TerminatorKind.{TerminatorKind}
@@ -37,6 +37,7 @@ acts_of_rvalue (Use o) = acts_of_operand o
 acts_of_rvalue (Binary op x y) = acts_of_operand x ++ acts_of_operand y
 acts_of_rvalue (Neg o) = acts_of_operand o
 acts_of_rvalue (Not o) = acts_of_operand o
+acts_of_rvalue (Widen o k) = acts_of_operand o
 acts_of_rvalue (Make c os) = acts_of_operands os
 
 abbrev pub acts_of : StatementKind → List Act

@@ -1,6 +1,6 @@
 -- Which bodies are typed, and in which each local that is read is initialised. The rules are those of the Rust Reference:
 -- "Variables" and "Move and copy types" (what is initialised), "Operator expressions" (which operands an operator takes), "Tuple
--- expressions" (`()`), "if expressions" (the condition is a bool) and "Call expressions" (the callee's parameters and answer).
+-- expressions" (`()`), "Type cast expressions" (of these the lossless ones), "if expressions" (the condition is a bool) and "Call expressions" (the callee's parameters and answer).
 use Rattle.std.specs.Prelude.{◌≡◌, ℕ, ◌+◌, ◌≤◌, ◌==◌, nat_lt, Bool, true, false, ◌&&◌, cond, List, [], ◌∷◌, ◌++◌, length, take, drop, Some, slice_get}
 use Rattle.logic_term.specs.declared.kinds.Label.{Label}
 use Rattle.source_kinds.specs.declared.kinds.IntKind.{IntKind}
@@ -8,7 +8,7 @@ use Rattle.source_kinds.specs.declared.kinds.IntKind.TheVariants.{I8, I16, I32, 
 use Rattle.source_kinds.specs.declared.kinds.BinaryOp.{BinaryOp}
 use Rattle.source_kinds.specs.declared.kinds.BinaryOp.TheVariants.{Add, Sub, Mul, Div, Rem, Eq, Ne, Lt, Le, Gt, Ge}
 use Rattle.logic_term.specs.declared.kinds.Ctor.TheVariants.{Tuple}
-use Rattle.source_kinds.specs.Range.{fits}
+use Rattle.source_kinds.specs.Range.{fits, widens}
 use Rattle.logic_term.specs.Ty.{Ty, int, bool, unit_ty}
 use Rattle.mir_ir.specs.declared.place.Place.{Place}
 use Rattle.mir_ir.specs.declared.place.Lit.{Lit}
@@ -16,7 +16,7 @@ use Rattle.mir_ir.specs.declared.place.Lit.TheVariants as lit
 use Rattle.mir_ir.specs.declared.place.Operand.{Operand}
 use Rattle.mir_ir.specs.declared.place.Operand.TheVariants.{Copy, Move, Const}
 use Rattle.mir_ir.specs.declared.statement.Rvalue.{Rvalue}
-use Rattle.mir_ir.specs.declared.statement.Rvalue.TheVariants.{Use, Binary, Neg, Not, Make}
+use Rattle.mir_ir.specs.declared.statement.Rvalue.TheVariants.{Use, Binary, Neg, Not, Widen, Make}
 use Rattle.mir_ir.specs.declared.statement.StatementKind.{StatementKind}
 use Rattle.mir_ir.specs.declared.statement.StatementKind.TheVariants.{Assign, Dead}
 use Rattle.mir_ir.specs.declared.statement.Statement.{Statement}
@@ -91,6 +91,8 @@ RvalueHas b (Use o) t = OperandHas b o t
 RvalueHas b (Binary op x y) t = (s : Ty) × OperandHas b x s × OperandHas b y s × OperationHas op s t
 RvalueHas b (Neg o) t = (k : IntKind) × IsSigned k × OperandHas b o (int k) × (t ≡ int k)
 RvalueHas b (Not o) t = OperandHas b o bool × (t ≡ bool)
+-- of any integer type whose values are all of the type
+RvalueHas b (Widen o k) t = (j : IntKind) × (widens j k ≡ true) × OperandHas b o (int j) × (t ≡ int k)
 -- so far `()` alone is made
 RvalueHas b (Make c os) t = (c ≡ Tuple) × (os ≡ []) × (t ≡ unit_ty)
 

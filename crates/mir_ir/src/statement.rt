@@ -1,6 +1,6 @@
 use crate::place::{Operand, Place};
 use logic_term::Ctor;
-use source_kinds::BinaryOp;
+use source_kinds::{BinaryOp, IntKind};
 use text_core::{Items, Span};
 
 /// The right side of an assignment.
@@ -12,6 +12,8 @@ pub enum Rvalue {
     Neg(Operand),
     /// `!x` of a truth value.
     Not(Operand),
+    /// The same integer, of a type that has each value of the operand's.
+    Widen(Operand, IntKind),
     /// A value made of the operands' values, in order.
     Make(Ctor, Items<Operand>),
 }

@@ -12,7 +12,7 @@ use Rattle.mir_ir.specs.declared.place.Proj.TheVariants.{Field, Variant, Deref}
 use Rattle.mir_ir.specs.declared.place.Operand.{Operand}
 use Rattle.mir_ir.specs.declared.place.Operand.TheVariants.{Copy, Move, Const}
 use Rattle.mir_ir.specs.declared.statement.Rvalue.{Rvalue}
-use Rattle.mir_ir.specs.declared.statement.Rvalue.TheVariants.{Use, Binary, Neg, Not, Make}
+use Rattle.mir_ir.specs.declared.statement.Rvalue.TheVariants.{Use, Binary, Neg, Not, Widen, Make}
 use Rattle.mir_ir.specs.declared.statement.StatementKind.{StatementKind}
 use Rattle.mir_ir.specs.declared.statement.StatementKind.TheVariants.{Assign, Dead}
 use Rattle.mir_ir.specs.declared.terminator.Callee.{Callee}
@@ -199,6 +199,7 @@ rvalue_keeps s kind span (Binary op a b) =
     (λ r e. having_weaker (TakenAsMany r.0) (TakenAsMany s) (operand r.0 b >>= λ q. binary kind span op r.1 q.1 >>= λ t. Yields (q.0, t)) (valued r.0 b (binary kind span op r.1)) (λ q e'. e' ∙ e))
 rvalue_keeps s kind span (Neg o) = valued s o (negated kind span)
 rvalue_keeps s kind span (Not o) = valued s o inverted
+rvalue_keeps s kind span (Widen o k) = having_of (TakenAsMany s) (operand s o) (operand_keeps s o)
 rvalue_keeps s kind span (Make c os) =
     having_then (TakenAsMany s) (TakenAsMany s) (operands s os) (λ r. Yields (r.0, Made c (trees_of r.1))) (having_of (TakenAsMany s) (operands s os) (operands_keep s os)) (λ r e. e)
 

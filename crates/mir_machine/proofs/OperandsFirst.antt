@@ -3,7 +3,7 @@ use Rattle.std.proofs.Common.{◌≡◌, refl, Option, List, [], ◌∷◌, slic
 use Rattle.text_core.specs.declared.span.Span.{Span}
 use Rattle.source_kinds.specs.declared.kinds.IntKind.{IntKind}
 use Rattle.mir_ir.specs.declared.statement.Rvalue.{Rvalue}
-use Rattle.mir_ir.specs.declared.statement.Rvalue.TheVariants.{Use, Binary, Neg, Not, Make}
+use Rattle.mir_ir.specs.declared.statement.Rvalue.TheVariants.{Use, Binary, Neg, Not, Widen, Make}
 use Rattle.mir_machine.specs.Try.{Try, Yields, Panics, Sticks, ◌>>=◌, need}
 use Rattle.mir_machine.specs.Tree.{Tree}
 use Rattle.mir_machine.specs.Frame.{State}
@@ -52,4 +52,5 @@ module _ {K : Type 0} where
   rvalue-row s kind span (Binary op a b) = pair_row (operand s a) (λ s₁. operand s₁ b) (binary kind span op)
   rvalue-row s kind span (Neg o) = single_row (operand s o) (negated kind span)
   rvalue-row s kind span (Not o) = single_row (operand s o) inverted
+  rvalue-row s kind span (Widen o k) = use_row (operand s o)
   rvalue-row s kind span (Make c os) = refl

@@ -5,6 +5,8 @@ use Rattle.std.proofs.lemmas.Option.{same_Some}
 use Rattle.std.specs.Option.{option_map}
 use Rattle.text_core.specs.declared.span.Span.{Span}
 use Rattle.source_kinds.specs.declared.kinds.IntKind.{IntKind}
+use Rattle.source_kinds.specs.Range.{widens}
+use Rattle.source_kinds.proofs.Widening.{fits_wider}
 use Rattle.logic_term.specs.declared.kinds.Ctor.TheVariants.{Tuple}
 use Rattle.logic_term.specs.Ty.{Ty, Tys, int, bool, unit_ty}
 use Rattle.logic_term.specs.Sort.{Declarations, instance}
@@ -14,7 +16,7 @@ use Rattle.mir_ir.specs.declared.place.Place.{Place}
 use Rattle.mir_ir.specs.declared.place.Operand.{Operand}
 use Rattle.mir_ir.specs.declared.place.Operand.TheVariants.{Copy, Move, Const}
 use Rattle.mir_ir.specs.declared.statement.Rvalue.{Rvalue}
-use Rattle.mir_ir.specs.declared.statement.Rvalue.TheVariants.{Use, Binary, Neg, Not, Make}
+use Rattle.mir_ir.specs.declared.statement.Rvalue.TheVariants.{Use, Binary, Neg, Not, Widen, Make}
 use Rattle.mir_ir.specs.declared.statement.StatementKind.{StatementKind}
 use Rattle.mir_ir.specs.declared.statement.StatementKind.TheVariants.{Assign, Dead}
 use Rattle.mir_ir.specs.declared.body.Body.{Body}
@@ -81,6 +83,7 @@ evaluated_is (Use o) set = refl
 evaluated_is (Binary op x y) set = refl
 evaluated_is (Neg o) set = refl
 evaluated_is (Not o) set = refl
+evaluated_is (Widen o k) set = refl
 evaluated_is (Make c os) set = refl
 
 pub can_take_all : (r : Rvalue) (set : Locals) → CanEvaluate set r → CanTakeAll set (operands_of r)
@@ -88,6 +91,7 @@ can_take_all (Use o) set h = (h, tt)
 can_take_all (Binary op x y) set h = (h.0, (h.1, tt))
 can_take_all (Neg o) set h = (h, tt)
 can_take_all (Not o) set h = (h, tt)
+can_take_all (Widen o k) set h = (h, tt)
 can_take_all (Make c os) set h = h
 
 pub kind_of_place : (b : Body) (θ : Tys) (p : Place) (ty : Ty) → PlaceHas b p ty → kind_in (place_ty b θ p) ≡ kind_of (instance θ ty)
@@ -140,6 +144,7 @@ operand_tys b (Use o) ty has = ty ∷ []
 operand_tys b (Binary op x y) ty has = has.0 ∷ has.0 ∷ []
 operand_tys b (Neg o) ty has = int has.0 ∷ []
 operand_tys b (Not o) ty has = bool ∷ []
+operand_tys b (Widen o k) ty has = int has.0 ∷ []
 operand_tys b (Make c os) ty has = []
 
 pub operands_have : (b : Body) (r : Rvalue) (ty : Ty) (has : RvalueHas b r ty) → OperandsHave b (operands_of r) (operand_tys b r ty has)
@@ -147,6 +152,7 @@ operands_have b (Use o) ty has = (has, tt)
 operands_have b (Binary op x y) ty (of, has_x, has_y, op_has) = (has_x, (has_y, tt))
 operands_have b (Neg o) ty (k, signed, has, is_ty) = (has, tt)
 operands_have b (Not o) ty (has, is_ty) = (has, tt)
+operands_have b (Widen o k) ty (j, wide, has, is_ty) = (has, tt)
 operands_have b (Make c os) ty (is_c, none, is_ty) = subst (λ qs. OperandsHave b qs []) (sym none) tt
 
 -- inside: the running frame is not the outside
@@ -301,6 +307,13 @@ module _ {K : Type 0} (Δ : Declarations) (b : Body) (θ : Tys) (n : ℕ) (insid
   use_goes : (u : State K) (ty : Ty) (ts : List (Tree K)) → AreOf Δ u θ ts (ty ∷ []) → Goes (HasType Δ u (instance θ ty)) (need (slice_get ts 0))
   use_goes u ty ts are = let t = are.each 0 ty refl in subst (λ (q : Option (Tree K)). Goes (HasType Δ u (instance θ ty)) (need q)) (sym t.1) t.2
 
+  -- the integer is one of the wider type
+  wide_goes : (u : State K) (j k : IntKind) (ts : List (Tree K)) → widens j k ≡ true → AreOf Δ u θ ts (int j ∷ []) → Goes (HasType Δ u (int k)) (need (slice_get ts 0))
+  wide_goes u j k ts wide are =
+      let t = are.each 0 (int j) refl in
+      let (z, is, e) = (has_shape t.2).1 in
+      subst (λ (q : Option (Tree K)). Goes (HasType Δ u (int k)) (need q)) (sym t.1) (subst (HasType Δ u (int k)) (sym is) (has_int k z (fits_wider j k z wide e)))
+
   unit_goes : (u : State K) (ts : List (Tree K)) → AreOf Δ u θ ts [] → HasType Δ u unit_ty (Made Tuple (trees_of ts))
   unit_goes u [] are = has_unit
   unit_goes u (t ∷ ts) are = absurd (omega (arith, are.count))
@@ -322,6 +335,8 @@ module _ {K : Type 0} (Δ : Declarations) (b : Body) (θ : Tys) (n : ℕ) (insid
   value_goes u span (Not o) ty (has, is_ty) ts are =
       subst (λ q. Goes (HasType Δ u (instance θ q)) (value_of (kind_of (instance θ q)) span (Not o) ts)) (sym is_ty)
       (one_goes u bool bool inverted ts are (λ t typed. inverted_goes Δ u t (has_shape typed)))
+  value_goes u span (Widen o k) ty (j, wide, has, is_ty) ts are =
+      subst (λ q. Goes (HasType Δ u (instance θ q)) (value_of (kind_of (instance θ q)) span (Widen o k) ts)) (sym is_ty) (wide_goes u j k ts wide are)
   value_goes u span (Make c os) ty (is_c, none, is_ty) ts are =
       subst (λ q. HasType Δ u (instance θ q) (Made c (trees_of ts))) (sym is_ty) (subst (λ d. HasType Δ u unit_ty (Made d (trees_of ts))) (sym is_c) (unit_goes u ts are))
 

@@ -1,5 +1,5 @@
 -- One step of the machine, and many. The rows are those of the Rust Reference: "Operator expressions" (overflow, and what
--- panics at `/`, `%` and `-x`), "Expressions" (operands from the left), "if expressions", and "Call expressions" (the operands
+-- panics at `/`, `%` and `-x`), "Type cast expressions", "Expressions" (operands from the left), "if expressions", and "Call expressions" (the operands
 -- are evaluated from the left before the call). Definitions bound no number of frames.
 use Rattle.std.specs.Prelude.{ℕ, zero, suc, ◌+◌, ◌-◌, ℤ, pos, neg_ℤ, ◌+ℤ◌, ◌-ℤ◌, ◌*ℤ◌, int_div, int_rem, int_lt, int_le, Bool, true, false, not, cond, List, [], ◌∷◌, ◌++◌, length, replicate, Option, Some, None, slice_get}
 use Rattle.std.specs.Ordering.{int_eq}
@@ -18,7 +18,7 @@ use Rattle.mir_ir.specs.declared.place.Lit.TheVariants as lit
 use Rattle.mir_ir.specs.declared.place.Operand.{Operand}
 use Rattle.mir_ir.specs.declared.place.Operand.TheVariants.{Copy, Move, Const}
 use Rattle.mir_ir.specs.declared.statement.Rvalue.{Rvalue}
-use Rattle.mir_ir.specs.declared.statement.Rvalue.TheVariants.{Use, Binary, Neg, Not, Make}
+use Rattle.mir_ir.specs.declared.statement.Rvalue.TheVariants.{Use, Binary, Neg, Not, Widen, Make}
 use Rattle.mir_ir.specs.declared.statement.StatementKind.{StatementKind}
 use Rattle.mir_ir.specs.declared.statement.StatementKind.TheVariants.{Assign, Dead}
 use Rattle.mir_ir.specs.declared.statement.Statement.{Statement}
@@ -128,6 +128,8 @@ rvalue s kind span (Not o) = do
   (s₁, x) ← operand s o
   t ← inverted x
   Yields (s₁, t)
+-- the integer stays the same
+rvalue s kind span (Widen o k) = operand s o
 rvalue s kind span (Make c os) = do
   (s₁, ts) ← operands s os
   Yields (s₁, Made c (trees_of ts))

@@ -16,7 +16,7 @@ use Rattle.mir_machine.specs.declared.ends.Waiting.{Waiting}
 use Rattle.mir_ir.specs.declared.place.Place.{Place}
 use Rattle.mir_ir.specs.declared.place.Operand.{Operand}
 use Rattle.mir_ir.specs.declared.statement.Rvalue.{Rvalue}
-use Rattle.mir_ir.specs.declared.statement.Rvalue.TheVariants.{Use, Binary, Neg, Not, Make}
+use Rattle.mir_ir.specs.declared.statement.Rvalue.TheVariants.{Use, Binary, Neg, Not, Widen, Make}
 use Rattle.mir_machine.specs.declared.spot.Spot.{Spot}
 use Rattle.mir_machine.specs.declared.taken.Taken.{Taken}
 use Rattle.mir_machine.specs.Try.{Try, Yields, Sticks, ◌>>=◌, need}
@@ -40,6 +40,7 @@ operands_of (Use o) = o ∷ []
 operands_of (Binary op a b) = a ∷ b ∷ []
 operands_of (Neg o) = o ∷ []
 operands_of (Not o) = o ∷ []
+operands_of (Widen o k) = o ∷ []
 operands_of (Make c os) = os
 
 -- the value of a right side, from the trees of its operands
@@ -51,6 +52,7 @@ value_of kind span (Binary op a b) ts = do
   binary kind span op x y
 value_of kind span (Neg o) ts = need (slice_get ts 0) >>= negated kind span
 value_of kind span (Not o) ts = need (slice_get ts 0) >>= inverted
+value_of kind span (Widen o k) ts = need (slice_get ts 0)
 value_of kind span (Make c os) ts = Yields (Made c (trees_of ts))
 
 -- the state in which the place has the right side's value

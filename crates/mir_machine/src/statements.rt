@@ -56,6 +56,7 @@ fn take_rvalue(
         }
         Rvalue::Neg(operand) => take(alloc, state, taken, operand),
         Rvalue::Not(operand) => take(alloc, state, taken, operand),
+        Rvalue::Widen(operand, _) => take(alloc, state, taken, operand),
         Rvalue::Make(_, parts) => take_all(alloc, state, taken, parts.as_slice()),
     }
 }
@@ -118,7 +119,7 @@ fn value_of(
     ensures memory { result ≢ Err Halt.NoMemory }
 {
     match rvalue {
-        Rvalue::Use(_) => first_of(trees),
+        Rvalue::Use(_) | Rvalue::Widen(_, _) => first_of(trees),
         Rvalue::Binary(op, _, _) => {
             operate_on(kind, span, *op, nth(&trees, 0)?, nth(&trees, 1)?)
         }

@@ -36,6 +36,7 @@ fn value_word(value: &Rvalue) -> &'static str {
         Rvalue::Make(_, _) => "make",
         Rvalue::Neg(_) => "negate",
         Rvalue::Not(_) => "not",
+        Rvalue::Widen(_, _) => "widen",
     }
 }
 

@@ -539,7 +539,7 @@ fn forms_that_have_no_type_yet(rt: HostRuntime) {
     expect(&rt, rt.alloc(), &FORMS_THAT_HAVE_NO_TYPE_YET);
 }
 
-const QUANTIFIED_TERMS: [Row; 18] = [
+const QUANTIFIED_TERMS: [Row; 20] = [
     (
         b"#[ensures(forall<k: Int> k <= result@ ==> k <= x@)] fn f(x: i32) -> i32 { x }",
         None,
@@ -592,9 +592,14 @@ const QUANTIFIED_TERMS: [Row; 18] = [
         b"#[requires(forall<p: Box<Int>> true)] fn f() {}",
         Some((Code::E20, 21, 29)),
     ),
+    (b"#[requires(exists<k: Int> k == 0)] fn f() {}", None),
     (
-        b"#[requires(exists<k: Int> k == 0)] fn f() {}",
-        Some((Code::E20, 11, 32)),
+        b"#[ensures(exists<k: u8, k: u8> k == k)] fn f() {}",
+        Some((Code::E06, 24, 25)),
+    ),
+    (
+        b"#[ensures(exists<k: u8> k@ + 1)] fn f() {}",
+        Some((Code::E07, 24, 30)),
     ),
     (b"#[requires(forall<> true)] fn f() {}", None),
     (
@@ -608,8 +613,41 @@ const QUANTIFIED_TERMS: [Row; 18] = [
     (b"fn f(x: Int) {}", Some((Code::E05, 8, 11))),
 ];
 
-/// What `forall` binds hides other variables, and the answer, in its body alone.
+/// What a quantifier binds hides other variables, and the answer, in its body alone.
 #[test]
 fn quantified_terms(rt: HostRuntime) {
     expect(&rt, rt.alloc(), &QUANTIFIED_TERMS);
+}
+
+const CHOICE_TERMS: [Row; 6] = [
+    (
+        b"#[requires(if c { x@ == 1 } else { false })] fn f(c: bool, x: i32) {}",
+        None,
+    ),
+    (
+        b"#[requires(if true { 1 } else { 2 } == 1)] fn f() {}",
+        None,
+    ),
+    (
+        b"#[requires(if x { true } else { false })] fn f(x: i32) {}",
+        Some((Code::E07, 14, 15)),
+    ),
+    (
+        b"#[requires(if true { 1 } else { false } == 1)] fn f() {}",
+        Some((Code::E07, 32, 37)),
+    ),
+    (
+        b"#[requires(if true { y } else { z })] fn f() {}",
+        Some((Code::E05, 21, 22)),
+    ),
+    (
+        b"#[requires(if true { 1 } else { 2 })] fn f() {}",
+        Some((Code::E07, 11, 35)),
+    ),
+];
+
+/// `if` of a term has a formula for its condition, and sides of one sort, which is that of the whole.
+#[test]
+fn choice_terms(rt: HostRuntime) {
+    expect(&rt, rt.alloc(), &CHOICE_TERMS);
 }

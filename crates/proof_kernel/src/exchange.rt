@@ -3,14 +3,14 @@ ghost use Rattle.std.specs.Prelude.{◌≡◌, ◌∷◌, ◌++◌, [], IfOk, le
 ghost use Rattle.logic_term.specs.Same.{same_term};
 ghost use Rattle.logic_term.specs.Subst.{subst};
 ghost use Rattle.logic_term.specs.Tasks.{with_last};
-ghost use Rattle.logic_term.specs.Term.{every, made};
-ghost use Rattle.logic_term.specs.TermOperator.{unary_operator, binary_operator};
+ghost use Rattle.logic_term.specs.Term.{choice, made};
+ghost use Rattle.logic_term.specs.TermOperator.{unary_operator, binary_operator, quantifier};
 ghost use Rattle.logic_term.specs.Walk.{parts};
 ghost use Rattle.proof_kernel.specs.Exchanged.{exchanged};
 ghost use Rattle.proof_kernel.specs.ExchangeSteps.{enter, remake, step, steps, depth_in, steps_of, made_of, applied, bound, with_parts};
 ghost use Rattle.proof_kernel.specs.RewriteRules.{for_each};
 
-use logic_term::{Ctor, Sort, Term, TermBinary, TermForm, TermUnary};
+use logic_term::{Ctor, Quantifier, Sort, Term, TermBinary, TermForm, TermUnary};
 use std::alloc::Global;
 use text_core::{Name, NoMemory};
 
@@ -116,6 +116,19 @@ fn push_both<'a>(
     push_task(Task::Enter(depth, a), tasks)
 }
 
+fn push_three<'a>(
+    depth: u64,
+    a: &'a Term,
+    b: &'a Term,
+    c: &'a Term,
+    tasks: &mut Vec<Task<'a>>,
+) -> Result<(), NoMemory>
+    ensures { IfOk result (λ _. steps tasks.new.items ≡ enter depth a.now ∷ enter depth b.now ∷ enter depth c.now ∷ steps tasks.old.items) }
+{
+    push_task(Task::Enter(depth, c), tasks)?;
+    push_both(depth, a, b, tasks)
+}
+
 /// The direct parts of the term, and then the term of what they become.
 #[tactic(auto, using(logic_term::proofs::Walking::listed_terms))]
 fn push_parts<'a>(depth: u64, t: &'a Term, tasks: &mut Vec<Task<'a>>) -> Result<(), NoMemory>
@@ -126,7 +139,8 @@ fn push_parts<'a>(depth: u64, t: &'a Term, tasks: &mut Vec<Task<'a>>) -> Result<
         TermForm::Make(_, terms) => push_all(depth, terms, tasks),
         TermForm::Unary(_, a) => push_task(Task::Enter(depth, a), tasks),
         TermForm::Binary(_, a, b) => push_both(depth, a, b, tasks),
-        TermForm::Forall(_, _, a) => push_body(depth, a, tasks),
+        TermForm::Choice(c, a, b) => push_three(depth, c, a, b, tasks),
+        TermForm::Quantified(_, _, _, a) => push_body(depth, a, tasks),
         _ => Ok(()),
     }
 }
@@ -149,7 +163,10 @@ fn remake(alloc: Global, t: &Term, done: &mut Vec<Term>) -> Result<(), NoMemory>
         TermForm::Make(ctor, terms) => remake_made(alloc, ctor, terms.len(), done),
         TermForm::Unary(op, _) => remake_unary(alloc, op, done),
         TermForm::Binary(op, _, _) => remake_binary(alloc, op, done),
-        TermForm::Forall(name, sort, _) => remake_quantified(alloc, name, sort, done),
+        TermForm::Choice(_, _, _) => remake_choice(alloc, done),
+        TermForm::Quantified(word, name, sort, _) => {
+            remake_quantified(alloc, word, name, sort, done)
+        }
         _ => push_shared(t, done),
     }
 }
@@ -190,19 +207,31 @@ fn remake_binary(alloc: Global, op: TermBinary, done: &mut Vec<Term>) -> Result<
     Ok(())
 }
 
+#[tactic(auto, using(logic_term::proofs::TasksWalk::three_last))]
+fn remake_choice(alloc: Global, done: &mut Vec<Term>) -> Result<(), NoMemory>
+    ensures { IfOk result (λ _. done.new.items ≡ with_last (applied choice) 3 done.old.items) }
+{
+    let (Some(c), Some(b), Some(a)) = (done.pop(), done.pop(), done.pop()) else {
+        return Err(NoMemory);
+    };
+    done.push(Term::choice(alloc, a, b, c)?)?;
+    Ok(())
+}
+
 #[tactic(auto, using(logic_term::proofs::TasksWalk::one_last))]
 fn remake_quantified(
     alloc: Global,
+    word: Quantifier,
     name: Name,
     sort: &Sort,
     done: &mut Vec<Term>,
 ) -> Result<(), NoMemory>
-    ensures { IfOk result (λ _. done.new.items ≡ with_last (bound every name sort.now) 1 done.old.items) }
+    ensures { IfOk result (λ _. done.new.items ≡ with_last (bound (quantifier word) name sort.now) 1 done.old.items) }
 {
     let Some(body) = done.pop() else {
         return Err(NoMemory);
     };
     let sort = sort.copy(alloc)?;
-    done.push(Term::forall(alloc, name, sort, body)?)?;
+    done.push(Term::quantified(alloc, word, name, sort, body)?)?;
     Ok(())
 }

@@ -8,7 +8,7 @@ ghost use Rattle.proof_kernel.specs.TermRules.{term_at};
 use crate::sequent::Sequent;
 use crate::term_rules::{assuming_all, term_at};
 use logic_elab::SortedTerm;
-use logic_term::{Label2, Replacement, Sort, Term, TermForm};
+use logic_term::{Label2, Quantifier, Replacement, Sort, Term, TermForm};
 use source_trees::Pterm;
 use std::alloc::Global;
 use text_core::NoMemory;
@@ -26,7 +26,7 @@ fn put_first(found: SortedTerm, formula: &Term) -> Result<Option<(Replacement, T
 {
     let SortedTerm { sort, term } = found;
     match formula.form() {
-        TermForm::Forall(name, wanted, body) => {
+        TermForm::Quantified(Quantifier::Forall, name, wanted, body) => {
             if !is_sort(&sort, wanted) {
                 return Ok(None);
             }

@@ -10,7 +10,9 @@ ghost use Rattle.logic_term.specs.Context.{count_variables};
 
 use crate::opened::{Opened, count_known, renames, sorts_of};
 use crate::sequent::Sequent;
-use logic_term::{Context, Label2, Renaming, Sort, Term, TermBinary, TermForm, is_one_of};
+use logic_term::{
+    Context, Label2, Quantifier, Renaming, Sort, Term, TermBinary, TermForm, is_one_of,
+};
 use std::alloc::Global;
 use text_core::{Items, Name, NoMemory};
 
@@ -246,7 +248,7 @@ fn take(
                 left = left.assume(alloc, step, premise)?;
                 goal = rest;
             }
-            TermForm::Forall(from, sort, body) if used < names.len() => {
+            TermForm::Quantified(Quantifier::Forall, from, sort, body) if used < names.len() => {
                 left = left.declare(alloc, names[used], from, sort)?;
                 used += 1;
                 goal = body;

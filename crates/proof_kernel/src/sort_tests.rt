@@ -26,7 +26,8 @@ fn is_formula(q: &Sequent, t: &Term) -> bool
         TermForm::Var(name) => is_bool_var(q, name),
         TermForm::Lit(_, _)
         | TermForm::Make(_, _)
-        | TermForm::Unary(TermUnary::Model | TermUnary::Negative, _)
+        | TermForm::Unary(TermUnary::Model | TermUnary::Negative | TermUnary::Field(_), _)
+        | TermForm::Choice(_, _, _)
         | TermForm::Binary(TermBinary::Arith(_), _, _) => false,
         _ => true,
     }

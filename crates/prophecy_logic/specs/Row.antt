@@ -19,7 +19,7 @@ use Rattle.mir_ir.specs.declared.place.Lit.TheVariants as literal
 use Rattle.mir_ir.specs.declared.place.Operand.{Operand}
 use Rattle.mir_ir.specs.declared.place.Operand.TheVariants.{Copy, Move, Const}
 use Rattle.mir_ir.specs.declared.statement.Rvalue.{Rvalue}
-use Rattle.mir_ir.specs.declared.statement.Rvalue.TheVariants.{Use, Binary, Neg, Not, Make}
+use Rattle.mir_ir.specs.declared.statement.Rvalue.TheVariants.{Use, Binary, Neg, Not, Widen, Make}
 use Rattle.mir_ir.specs.declared.statement.StatementKind.{StatementKind}
 use Rattle.mir_ir.specs.declared.statement.StatementKind.TheVariants.{Assign, Dead}
 use Rattle.mir_ir.specs.declared.body.Body.{Body}
@@ -173,11 +173,16 @@ abbrev pub of_negation : Body → Option IntKind → ℕ → Operand → List Co
 of_negation b (Some k) x o = new_integer b k x (negative (integer_term b o))
 of_negation b None x o = []
 
+-- the local gets a new value of the wider type, which is the same integer
+abbrev pub of_widening : Body → IntKind → ℕ → Operand → List Command
+of_widening b k x o = new_integer b k x (integer_term b o)
+
 abbrev pub of_rvalue : Body → Option IntKind → ℕ → Rvalue → List Command
 of_rvalue b k x (Use o) = Set (name_of b x) (operand_term b o) ∷ []
 of_rvalue b k x (Binary op o q) = of_operation b k x op o q (operation op)
 of_rvalue b k x (Neg o) = of_negation b k x o
 of_rvalue b k x (Not o) = Set (name_of b x) (not (operand_term b o)) ∷ []
+of_rvalue b k x (Widen o wide) = of_widening b wide x o
 of_rvalue b k x (Make c os) = Set (name_of b x) (apply (made c) (terms_of (map (operand_term b) os))) ∷ []
 
 abbrev pub commands_of : Body → StatementKind → List Command

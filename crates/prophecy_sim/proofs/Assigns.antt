@@ -13,7 +13,8 @@ use Rattle.source_kinds.specs.declared.kinds.BinaryOp.TheVariants.{Add, Sub, Mul
 use Rattle.logic_term.specs.declared.kinds.Ctor.{Ctor}
 use Rattle.source_kinds.specs.declared.kinds.IntKind.{IntKind}
 use Rattle.source_kinds.specs.declared.kinds.IntKind.TheVariants.{I8, I16, I32, I64, Isize, U8, U16, U32, U64, Usize}
-use Rattle.source_kinds.specs.Range.{lowest, fits}
+use Rattle.source_kinds.specs.Range.{lowest, fits, widens}
+use Rattle.source_kinds.proofs.Widening.{fits_wider}
 use Rattle.logic_term.specs.Sort.{Declarations, HasSort, instance, of_int, of_bool}
 use Rattle.logic_term.specs.Theory.{Theory, declared}
 use Rattle.logic_term.specs.Ty.{Ty, int, bool, no_tys}
@@ -29,7 +30,7 @@ use Rattle.mir_ir.specs.declared.place.Lit.TheVariants as lit
 use Rattle.mir_ir.specs.declared.place.Operand.{Operand}
 use Rattle.mir_ir.specs.declared.place.Operand.TheVariants.{Copy, Move, Const}
 use Rattle.mir_ir.specs.declared.statement.Rvalue.{Rvalue}
-use Rattle.mir_ir.specs.declared.statement.Rvalue.TheVariants.{Use, Binary, Neg, Not, Make}
+use Rattle.mir_ir.specs.declared.statement.Rvalue.TheVariants.{Use, Binary, Neg, Not, Widen, Make}
 use Rattle.mir_ir.specs.declared.statement.StatementKind.TheVariants.{Assign}
 use Rattle.mir_ir.specs.declared.body.Body.{Body}
 use Rattle.mir_ir.specs.Body.{whole, place_ty, kind_of, kind_in}
@@ -211,6 +212,13 @@ module _ (Θ : Theory) (b : Body) (not_new : (x : ℕ) (t : Ty) → slice_get b.
         (ap (λ c. of_rvalue b c p.local (Neg o)) kind) refl f
         (computes_negative W (integer_term b o) ρ₁ y (operand_computes ρ₁ o y (new_value b not_new ρ (Number z) o (int k) has ∙ is_y)))
 
+    -- the new value is the same integer
+    widen_assigned : (o : Operand) (j k : IntKind) → widens j k ≡ true → OperandHas b o (int j) → Has (int j) (operand_value b ρ o) → Assigned ρ p (Widen o k)
+    widen_assigned o j k wide has sort =
+        let v = int_sort (declared Θ) j (operand_value b ρ o) sort in
+        let ρ₁ : Env = with_value ρ value_name (Number v.0) in
+        new_assigned (Widen o k) k (integer_term b o) v.0 tt refl v.1 (fits_wider j k v.0 wide v.2) (operand_computes ρ₁ o v.0 (new_value b not_new ρ (Number v.0) o (int j) has ∙ v.1))
+
     -- ---- two operands
 
     module _ (o q : Operand) where
@@ -388,4 +396,5 @@ module _ (Θ : Theory) (b : Body) (not_new : (x : ℕ) (t : Ty) → slice_get b.
         binary_assigned o q op ty has.0 place has.1 has.2 has.3 (sorts o has.0 has.1 can.0) (sorts q has.0 has.2 (can_before set o q can.1)) goals
     assigned set (Neg o) ty place has can sorts goals = neg_assigned o ty has.0 place has.3 has.2 (sorts o (int has.0) has.2 can) goals
     assigned set (Not o) ty place has can sorts goals = not_assigned o (sorts o bool has.0 can)
+    assigned set (Widen o k) ty place has can sorts goals = widen_assigned o has.0 k has.1 has.2 (sorts o (int has.0) has.2 can)
     assigned set (Make c os) ty place has can sorts goals = make_assigned c os has.1

@@ -16,7 +16,7 @@ use Rattle.mir_ir.specs.declared.place.Lit.TheVariants as lit
 use Rattle.mir_ir.specs.declared.place.Operand.{Operand}
 use Rattle.mir_ir.specs.declared.place.Operand.TheVariants.{Copy, Move, Const}
 use Rattle.mir_ir.specs.declared.statement.Rvalue.{Rvalue}
-use Rattle.mir_ir.specs.declared.statement.Rvalue.TheVariants.{Use, Binary, Neg, Not, Make}
+use Rattle.mir_ir.specs.declared.statement.Rvalue.TheVariants.{Use, Binary, Neg, Not, Widen, Make}
 use Rattle.mir_ir.specs.declared.body.Body.{Body}
 use Rattle.mir_ir.specs.WellFormed.{Locals, Within, OperandHas, OperandsHave, RvalueHas, with, without}
 use Rattle.mir_ir.proofs.Taking.{CanTake, CanTakeAll, taken, all_taken, evaluated}
@@ -54,6 +54,7 @@ rvalue_value b ρ (Use o) = operand_value b ρ o
 rvalue_value b ρ (Binary op x y) = applied op (operand_value b ρ x) (operand_value b ρ y)
 rvalue_value b ρ (Neg o) = Number (opposite (operand_value b ρ o))
 rvalue_value b ρ (Not o) = Flag (not (flag_of (operand_value b ρ o)))
+rvalue_value b ρ (Widen o k) = operand_value b ρ o
 rvalue_value b ρ (Make c os) = value.Made c (operand_values b ρ os)
 
 -- the right side does not panic, where a place of this kind is written
@@ -62,6 +63,7 @@ RvalueIsInRange b kind ρ (Use o) = Unit {0}
 RvalueIsInRange b kind ρ (Binary op x y) = IsInRange kind op (integer_of (operand_value b ρ x)) (integer_of (operand_value b ρ y))
 RvalueIsInRange b kind ρ (Neg o) = InKind kind (λ k. fits k (opposite (operand_value b ρ o)) ≡ true)
 RvalueIsInRange b kind ρ (Not o) = Unit {0}
+RvalueIsInRange b kind ρ (Widen o k) = Unit {0}
 RvalueIsInRange b kind ρ (Make c os) = Unit {0}
 
 -- the term of an operand has the operand's value
@@ -101,6 +103,7 @@ evaluated_before (Use o) set y e = taken_before o set y e
 evaluated_before (Binary op a b) set y e = taken_before a set y (taken_before b (taken a set) y e)
 evaluated_before (Neg o) set y e = taken_before o set y e
 evaluated_before (Not o) set y e = taken_before o set y e
+evaluated_before (Widen o k) set y e = taken_before o set y e
 evaluated_before (Make c os) set y e = all_taken_before os set y e
 
 -- what is initialised behind a write of local x is x, or was so before
@@ -204,5 +207,6 @@ module _ {K : Type 0} (b : Body) where
       one_shows ts (operand_value b ρ o) (Number (opposite (operand_value b ρ o))) (negated kind span) shows (λ t shows_t. negated_shows K kind span t (operand_value b ρ o) shows_t in_range)
   value_shows ρ kind span (Not o) ty ts has shows in_range =
       one_shows ts (operand_value b ρ o) (Flag (not (flag_of (operand_value b ρ o)))) inverted shows (λ t shows_t. inverted_shows K t (operand_value b ρ o) shows_t)
+  value_shows ρ kind span (Widen o k) ty ts has shows in_range = use_shows ts (operand_value b ρ o) shows
   value_shows ρ kind span (Make c os) ty ts (is_c, no_parts, is) shows in_range =
       subst (λ qs. Shows {K = K} (Made c (trees_of ts)) (value.Made c (operand_values b ρ qs))) (sym no_parts) (none_show c ts (subst (λ qs. AllShow ts (operand_values b ρ qs)) no_parts shows))

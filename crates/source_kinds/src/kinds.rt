@@ -1,5 +1,5 @@
 ghost use Rattle.std.specs.Prelude.{◌≡◌};
-ghost use Rattle.source_kinds.specs.Range.{lowest, highest};
+ghost use Rattle.source_kinds.specs.Range.{lowest, highest, widens};
 
 /// The machine's integer types; `Usize` and `Isize` have 64 bits.
 #[derive(Clone, Copy, Debug, PartialEq, Eq)]
@@ -44,6 +44,13 @@ impl IntKind {
             IntKind::U32 => 4294967295,
             IntKind::U64 | IntKind::Usize => 18446744073709551615,
         }
+    }
+
+    /// Whether each integer of the type is one of the other, so that a cast to it loses nothing.
+    pub fn widens_to(self, other: IntKind) -> bool
+        ensures { result ≡ widens self other }
+    {
+        other.lowest() <= self.lowest() && self.highest() <= other.highest()
     }
 }
 

@@ -14,15 +14,13 @@ pub mod Fits
 pub mod Lookups
 pub mod PartByPart
 pub mod Parts
-pub mod PlainParts
-pub mod PlainTrees
-pub mod PlainTypes
-pub mod PlainWhole
 pub mod Refusing
 pub mod Speaking
 pub mod StatementLists
 pub mod Targets
 pub mod TupleTypes
 pub mod TypedParts
+pub mod Unrun
+pub mod UnrunParts
 pub mod Whole
 pub mod WrittenTypes

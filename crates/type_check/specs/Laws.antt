@@ -1,11 +1,11 @@
 -- What holds of every source.
-use Rattle.std.specs.Prelude.{◌≡◌, List, Ok}
+use Rattle.std.specs.Prelude.{◌≡◌, List, Ok, None}
 use Rattle.logic_term.specs.declared.declaration.AdtDecl.{AdtDecl}
 use Rattle.source_trees.specs.declared.item.Item.{Item}
 use Rattle.type_check.specs.declared.program.TypedProgram.{TypedProgram}
 use Rattle.type_check.specs.Checked.{AllGood, checked}
-use Rattle.type_check.specs.Plain.{EachIsPlain}
-use Rattle.type_check.specs.PlainSources.{ArePlainItems}
+use Rattle.type_check.specs.Plain.{ProgramIsPlain}
+use Rattle.type_check.specs.Unrun.{first_unrun}
 use Rattle.type_check.specs.WellTyped.{ProgramFits}
 
 -- the program that a source comes to fits
@@ -16,6 +16,9 @@ CheckedProgramsFit = (ds : List AdtDecl) (is : List Item) (p : TypedProgram) →
 abbrev pub CheckedProgramsAreGood : Type 0
 CheckedProgramsAreGood = (ds : List AdtDecl) (is : List Item) (p : TypedProgram) → checked ds is ≡ Ok p → AllGood p
 
--- that of a source without tuples and structs is over integers, truth values and unit alone
-abbrev pub CheckedPlainSourcesArePlain : Type 0
-CheckedPlainSourcesArePlain = (ds : List AdtDecl) (is : List Item) (p : TypedProgram) → ArePlainItems is → checked ds is ≡ Ok p → EachIsPlain p.functions
+-- a program is plain where nothing in it does not run yet, and only there
+abbrev pub PlainProgramsRun : Type 0
+PlainProgramsRun = (p : TypedProgram) → ProgramIsPlain p → first_unrun p ≡ None
+
+abbrev pub ProgramsThatRunArePlain : Type 0
+ProgramsThatRunArePlain = (p : TypedProgram) → first_unrun p ≡ None → ProgramIsPlain p

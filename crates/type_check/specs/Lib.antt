@@ -11,7 +11,6 @@ pub mod Laws
 pub mod Leaves
 pub mod Literals
 pub mod Plain
-pub mod PlainSources
 pub mod Rules
 pub mod Scope
 pub mod Setting
@@ -22,6 +21,7 @@ pub mod TypedExprFalls
 pub mod TypedExprView
 pub mod Types
 pub mod Typing
+pub mod Unrun
 pub mod VariableNames
 pub mod WellTyped
 pub mod Written

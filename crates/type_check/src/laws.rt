@@ -2,7 +2,7 @@
 //! contract of `check` speaks.
 
 ghost use Rattle.type_check.specs.Causes.{RefusalsHaveCauses};
-ghost use Rattle.type_check.specs.Laws.{CheckedPlainSourcesArePlain, CheckedProgramsFit, CheckedProgramsAreGood};
+ghost use Rattle.type_check.specs.Laws.{CheckedProgramsFit, CheckedProgramsAreGood, PlainProgramsRun, ProgramsThatRunArePlain};
 ghost use Rattle.type_check.specs.Rules.{TypedByRules, TypingIsOne};
 
 /// The program that a source comes to fits, and no clause and no invariant of it is refused.
@@ -11,10 +11,10 @@ pub fn checked_programs_fit()
     ensures good { CheckedProgramsAreGood }
 {}
 
-/// The program that a source comes to is over integers, truth values and unit alone, where no tuple and no struct is made in it, no part or field of
-/// one is taken, and each type in its functions is a word of types alone.
-pub fn checked_plain_sources_are_plain()
-    ensures { CheckedPlainSourcesArePlain }
+/// Where nothing of a program is found that does not run yet, it is over integers, truth values and unit alone, and only there.
+pub fn programs_that_run_are_plain()
+    ensures plain { ProgramsThatRunArePlain }
+    ensures runs { PlainProgramsRun }
 {}
 
 /// A refusal of program code has a cause at the expression or at a part of it: E05 at a name that means no variable or no

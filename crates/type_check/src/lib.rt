@@ -22,6 +22,7 @@ mod logic;
 mod operands;
 mod program;
 mod refusal;
+mod running;
 mod scope;
 mod selecting;
 mod setting;
@@ -37,9 +38,10 @@ pub use checking::check;
 pub use declarations::{Declared, declare};
 pub use elaborate::{answer_name, variable_name};
 pub use laws::{
-    checked_plain_sources_are_plain, checked_programs_fit, expressions_are_typed_by_rules,
+    checked_programs_fit, expressions_are_typed_by_rules, programs_that_run_are_plain,
     refusals_have_causes,
 };
 pub use leaving::leaves;
 pub use program::{ClauseKind, Signature, TypedClause, TypedFunction, TypedProgram};
+pub use running::first_unrun;
 pub use typed::{TypedExpr, TypedNode, TypedStmt};

@@ -1,4 +1,4 @@
-//! Tests of the table of declared types, of which types are `Copy`, of assignments, of what leaves, of `break` and `continue`, of tuples, and of structs in functions.
+//! Tests of the table of declared types, of which types are `Copy`, of assignments, of what leaves, of `break` and `continue`, of tuples, of structs in functions, and of what does not run yet.
 #![tactic(auto)]
 
 #[cfg(test)]
@@ -17,6 +17,8 @@ mod declaring;
 mod leaving;
 #[cfg(test)]
 mod meaning;
+#[cfg(test)]
+mod running;
 #[cfg(test)]
 mod structs;
 #[cfg(test)]

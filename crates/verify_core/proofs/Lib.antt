@@ -4,7 +4,6 @@ mod JudgeLaws
 mod OwedLaws
 mod OwedOnce
 mod PassLaws
-mod PlainItems
 mod ReachLaws
 mod RoundLaws
 mod RunLaws

@@ -1,5 +1,5 @@
 -- A source within its length is accepted with one program, or refused with one code and place, or past one limit, and only one of these.
-use Rattle.std.proofs.Common.{◌≡◌, ◌∙◌, refl, sym, ap, subst, ℕ, ◌<◌, ◌≤◌, List, [], length, Result, Ok, Err, arith}
+use Rattle.std.proofs.Common.{◌≡◌, ◌∙◌, refl, sym, ap, subst, ℕ, ◌<◌, ◌≤◌, List, [], length, Option, Some, None, Result, Ok, Err, arith}
 use Rattle.text_core.specs.declared.refusal.Limit.{Limit}
 use Rattle.text_core.specs.declared.refusal.SourceError.{SourceError}
 use Rattle.name_tables.proofs.Tables.{one_place_at_first}
@@ -15,6 +15,8 @@ use Rattle.rs_types.proofs.OneRefusal.{first_does_not_hold, one_first}
 use Rattle.type_check.specs.Checked.{checked}
 use Rattle.type_check.specs.DeclaredTypes.{declared_types}
 use Rattle.type_check.specs.Declaring.{checks}
+use Rattle.type_check.specs.Answers.{unbuilt}
+use Rattle.type_check.specs.Unrun.{first_unrun}
 use Rattle.mir_build.specs.Lowering.{LowerTo, HasMoreBlocks}
 use Rattle.mir_build.specs.Whole.{HaveFewBlocks}
 use Rattle.mir_build.proofs.OneBody.{programs_lower_in_one_way, blocks_are_counted}
@@ -41,6 +43,12 @@ same_err e = cc
 ok_err : {A B : Type 0} {a : A} {b : B} → ◌≡◌ {A = Result A B} (Ok a) (Err b) → ⊥
 ok_err e = cc
 
+none_some : {A : Type 0} {a : A} → ◌≡◌ {A = Option A} None (Some a) → ⊥
+none_some e = cc
+
+some_one : {A : Type 0} {a b : A} → ◌≡◌ {A = Option A} (Some a) (Some b) → a ≡ b
+some_one e = cc
+
 -- what items are typed as, with the types that they declare
 abbrev typing : List Item → Result TypedProgram SourceError
 typing is = checked (declared_types is) is
@@ -65,21 +73,37 @@ module _ (source : List ℕ) where
   typed_not_refused t p error a (IsRefused.by_declarations {table} {items} has first) =
       first_does_not_hold (declared_types items) (checks items) error (subst AreInOrder (same_items t table a.items items a.has has) a.in_order) first
   typed_not_refused t p error a (IsRefused.by_types {table} {items} has order is) = ok_err (sym a.is_typed ∙ ap typing (same_items t table a.items items a.has has) ∙ is)
+  typed_not_refused t p error a (IsRefused.by_running {table} {items} {typed} {place} has order is stops code) =
+      let same : p ≡ typed = same_ok (sym a.is_typed ∙ ap typing (same_items t table a.items items a.has has) ∙ is) in
+      none_some (sym a.all_run ∙ ap first_unrun same ∙ stops)
 
   pub one_refusal : (one other : SourceError) → IsRefused source one → IsRefused source other → one ≡ other
   one_refusal one other (IsRefused.by_form h) (IsRefused.by_form g) = one_error [] source one_place_at_first one other h g
   one_refusal one other (IsRefused.by_form h) (IsRefused.by_declarations {items = items} has first) = absurd (not_refused [] source one_place_at_first items one has.spelled h)
   one_refusal one other (IsRefused.by_form h) (IsRefused.by_types {items = items} has order is) = absurd (not_refused [] source one_place_at_first items one has.spelled h)
+  one_refusal one other (IsRefused.by_form h) (IsRefused.by_running {items = items} has order is stops code) = absurd (not_refused [] source one_place_at_first items one has.spelled h)
   one_refusal one other (IsRefused.by_declarations {items = items} has first) (IsRefused.by_form g) = absurd (not_refused [] source one_place_at_first items other has.spelled g)
   one_refusal one other (IsRefused.by_declarations {table = t} {items = items} has first) (IsRefused.by_declarations {table = u} {items = others} had second) =
       one_first (declared_types others) (checks others) one other (subst (λ (is : List Item). IsFirst (declared_types is) (checks is) one) (same_items t u items others has had) first) second
   one_refusal one other (IsRefused.by_declarations {table = t} {items = items} has first) (IsRefused.by_types {table = u} {items = others} had order is) =
+      absurd (first_does_not_hold (declared_types others) (checks others) one order (subst (λ (is : List Item). IsFirst (declared_types is) (checks is) one) (same_items t u items others has had) first))
+  one_refusal one other (IsRefused.by_declarations {table = t} {items = items} has first) (IsRefused.by_running {table = u} {items = others} had order is stops code) =
       absurd (first_does_not_hold (declared_types others) (checks others) one order (subst (λ (is : List Item). IsFirst (declared_types is) (checks is) one) (same_items t u items others has had) first))
   one_refusal one other (IsRefused.by_types {items = items} has order is) (IsRefused.by_form g) = absurd (not_refused [] source one_place_at_first items other has.spelled g)
   one_refusal one other (IsRefused.by_types {table = t} {items = items} has order is) (IsRefused.by_declarations {table = u} {items = others} had first) =
       absurd (first_does_not_hold (declared_types items) (checks items) other order (subst (λ (is : List Item). IsFirst (declared_types is) (checks is) other) (same_items u t others items had has) first))
   one_refusal one other (IsRefused.by_types {table = t} {items = items} has order is) (IsRefused.by_types {table = u} {items = others} had also was) =
       same_err (sym is ∙ ap typing (same_items t u items others has had) ∙ was)
+  one_refusal one other (IsRefused.by_types {table = t} {items = items} has order is) (IsRefused.by_running {table = u} {items = others} had also was stops code) =
+      absurd (ok_err (sym was ∙ ap typing (same_items u t others items had has) ∙ is))
+  one_refusal one other (IsRefused.by_running {items = items} has order is stops code) (IsRefused.by_form g) = absurd (not_refused [] source one_place_at_first items other has.spelled g)
+  one_refusal one other (IsRefused.by_running {table = t} {items = items} has order is stops code) (IsRefused.by_declarations {table = u} {items = others} had first) =
+      absurd (first_does_not_hold (declared_types items) (checks items) other order (subst (λ (is : List Item). IsFirst (declared_types is) (checks is) other) (same_items u t others items had has) first))
+  one_refusal one other (IsRefused.by_running {table = t} {items = items} has order is stops code) (IsRefused.by_types {table = u} {items = others} had also was) =
+      absurd (ok_err (sym is ∙ ap typing (same_items t u items others has had) ∙ was))
+  one_refusal one other (IsRefused.by_running {table = t} {items = items} {typed = p} has order is stops code) (IsRefused.by_running {table = u} {items = others} {typed = q} had also was ends named) =
+      let same : p ≡ q = same_ok (sym is ∙ ap typing (same_items t u items others has had) ∙ was) in
+      code ∙ ap unbuilt (some_one (sym stops ∙ ap first_unrun same ∙ ends)) ∙ sym named
 
   -- ---- two lowerings
 
@@ -106,6 +130,7 @@ module _ (source : List ℕ) where
     refused_not_past error limit (IsRefused.by_form h) (IsPastLimit.functions is) = not_many [] source one_place_at_first error limit h is
     refused_not_past error limit (IsRefused.by_declarations {items = items} has first) (IsPastLimit.functions many) = not_few [] source one_place_at_first items limit has.spelled has.few many
     refused_not_past error limit (IsRefused.by_types {items = items} has order is) (IsPastLimit.functions many) = not_few [] source one_place_at_first items limit has.spelled has.few many
+    refused_not_past error limit (IsRefused.by_running {items = items} has order is stops code) (IsPastLimit.functions many) = not_few [] source one_place_at_first items limit has.spelled has.few many
     refused_not_past error _ r (IsPastLimit.blocks {table} {typed} a more) = typed_not_refused table typed error a r
     refused_not_past error _ r (IsPastLimit.paths {table} {typed} a l few many) = typed_not_refused table typed error a r
     refused_not_past error _ r (IsPastLimit.obligations {table} {typed} a l few paths have many) = typed_not_refused table typed error a r

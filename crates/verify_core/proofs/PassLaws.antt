@@ -5,6 +5,7 @@ use Rattle.std.proofs.lemmas.List.{length-append, length-map}
 use Rattle.std.proofs.lemmas.Option.{slice_get_read}
 use Rattle.text_core.specs.declared.refusal.Limit.{Limit}
 use Rattle.text_core.specs.declared.refusal.SourceError.{SourceError}
+use Rattle.text_core.specs.declared.span.Span.{Span}
 use Rattle.logic_term.specs.declared.declaration.AdtDecl.{AdtDecl}
 use Rattle.logic_term.specs.declared.kinds.Label.{Label}
 use Rattle.logic_term.specs.declared.obligation.Contract.{Contract}
@@ -32,11 +33,13 @@ use Rattle.rs_types.specs.Checked.{IsFirst}
 use Rattle.type_check.specs.declared.program.Signature.{Signature}
 use Rattle.type_check.specs.declared.program.TypedFunction.{TypedFunction}
 use Rattle.type_check.specs.declared.program.TypedProgram.{TypedProgram}
-use Rattle.type_check.specs.Answers.{Refuses as TypesRefuse}
+use Rattle.type_check.specs.Answers.{unbuilt, Refuses as TypesRefuse}
 use Rattle.type_check.specs.Checked.{checked}
 use Rattle.type_check.specs.DeclaredTypes.{declared_types}
 use Rattle.type_check.specs.Declaring.{checks}
 use Rattle.type_check.specs.Plain.{EachIsPlain}
+use Rattle.type_check.specs.Unrun.{first_unrun}
+use Rattle.type_check.proofs.Unrun.{each_is_plain}
 use Rattle.type_check.specs.WellTyped.{ProgramFits, signatures}
 use Rattle.mir_build.specs.declared.lowered.Lowered.{Lowered}
 use Rattle.mir_build.specs.Laws.{Lowers}
@@ -61,7 +64,7 @@ use Rattle.verify_core.specs.Refusals.{refusal_of}
 use Rattle.verify_core.specs.Owed.{owing}
 use Rattle.verify_core.proofs.Assembly.{sound, gone_at}
 use Rattle.verify_core.proofs.ReachLaws.{within, got}
-use Rattle.verify_core.proofs.Verified.{typed_program_fits, typed_program_is_plain}
+use Rattle.verify_core.proofs.Verified.{typed_program_fits}
 use Rattle.mir_ir.specs.declared.body.Bodies.{Bodies}
 use Rattle.mir_ir.specs.Callees.{contract_at}
 use Rattle.mir_ir.specs.declared.terminator.Callee.{Callee}
@@ -94,8 +97,12 @@ types_refused source table items ds (errors.Source e) has (same, order) is = IsR
 types_refused source table items ds (errors.Limit l) has declares is = absurd is
 types_refused source table items ds errors.NoMemory has declares is = tt
 
-pub typed_as : (source : List ℕ) (table : List (List ℕ)) (items : List Item) (typed : TypedProgram) (ds : List AdtDecl) → HasItems source table items → (ds ≡ declared_types items) × AreInOrder items → checked ds items ≡ Ok typed → IsChecked source table typed ds
-typed_as source table items typed ds has (same, order) is = record { typed_as = record { items = items; has = has; in_order = order; is_typed = subst (λ (x : List AdtDecl). checked x items ≡ Ok typed) same is }; declares = same }
+pub typed_as : (source : List ℕ) (table : List (List ℕ)) (items : List Item) (typed : TypedProgram) (ds : List AdtDecl) → HasItems source table items → (ds ≡ declared_types items) × AreInOrder items → checked ds items ≡ Ok typed → first_unrun typed ≡ None → IsChecked source table typed ds
+typed_as source table items typed ds has (same, order) is run = record { typed_as = record { items = items; has = has; in_order = order; is_typed = subst (λ (x : List AdtDecl). checked x items ≡ Ok typed) same is; all_run = run }; declares = same }
+
+pub running_refused : (source : List ℕ) (table : List (List ℕ)) (items : List Item) (typed : TypedProgram) (ds : List AdtDecl) (place : Span) → HasItems source table items → (ds ≡ declared_types items) × AreInOrder items → checked ds items ≡ Ok typed → first_unrun typed ≡ Some place
+    → RefusesSource source (refusals.Source (unbuilt place))
+running_refused source table items typed ds place has (same, order) is stops = IsRefused.by_running has order (subst (λ (x : List AdtDecl). checked x items ≡ Ok typed) same is) stops refl
 
 pub lowered_with : (table : List (List ℕ)) (ds es : List AdtDecl) (typed : TypedProgram) (l : Lowered) → ds ≡ es → IsLowered table ds typed l → IsLowered table es typed l
 lowered_with table ds es typed l same lowered = subst (λ (x : List AdtDecl). IsLowered table x typed l) same lowered
@@ -108,7 +115,7 @@ pub fits_of : (source : List ℕ) (table : List (List ℕ)) (typed : TypedProgra
 fits_of source table typed t = typed_program_fits (declared_types t.items) t.items typed t.is_typed
 
 pub plain_of : (source : List ℕ) (table : List (List ℕ)) (typed : TypedProgram) → IsTypedAs source table typed → EachIsPlain typed.functions
-plain_of source table typed t = typed_program_is_plain (declared_types t.items) t.items typed t.has.spelled.built t.is_typed
+plain_of source table typed t = each_is_plain typed.functions t.all_run
 
 pub lowering_refused : (source : List ℕ) (table : List (List ℕ)) (typed : TypedProgram) (e : PassError) → IsTypedAs source table typed → FailsFor (HasMoreBlocks typed 4096) e → RefusesSource source (refusal_of e)
 lowering_refused source table typed (errors.Source e) t fails = absurd fails

@@ -21,18 +21,15 @@ use Rattle.proof_kernel.specs.Setting.{theory_of}
 use Rattle.proof_kernel.proofs.Derived.{proof_is_sound}
 use Rattle.proof_text.specs.declared.proof.Proof.{Proof}
 use Rattle.report_out.specs.declared.verdict.Verdict.{Verdict}
-use Rattle.source_forms.specs.ItemForms.{first_unbuilt}
 use Rattle.source_trees.specs.declared.item.Item.{Item}
 use Rattle.type_check.specs.declared.program.TypedProgram.{TypedProgram}
 use Rattle.type_check.specs.Checked.{checked}
-use Rattle.type_check.specs.Plain.{EachIsPlain}
 use Rattle.type_check.specs.WellTyped.{ProgramFits}
-use Rattle.type_check.proofs.PlainWhole.{plain_program}
+use Rattle.type_check.proofs.Unrun.{each_is_plain}
 use Rattle.type_check.proofs.Whole.{answered_fits}
 use Rattle.std.specs.Prelude.{Ok}
 use Rattle.prophecy_sim.specs.declared.node.Node.TheVariants.{Function}
 use Rattle.verify_core.specs.declared.program.Program.{Program}
-use Rattle.verify_core.specs.Built.{is_built}
 use Rattle.verify_core.specs.Declarations.{declared_of}
 use Rattle.verify_core.specs.OnSource.{AreGood}
 use Rattle.verify_core.specs.Owed.{owed_by, HaveOwners}
@@ -41,7 +38,6 @@ use Rattle.verify_core.specs.Prepared.{IsPrepared, AreOfWalk, program_of, settin
 use Rattle.verify_core.specs.Verdict.{steps_of, HasDerivation, Tells, IsVerified, IsVerdict}
 use Rattle.verify_core.proofs.Assembly.{sound, labelling, functions}
 use Rattle.verify_core.proofs.OwedLaws.{have_owners, function_owes}
-use Rattle.verify_core.proofs.PlainItems.{built_items_are_plain}
 use Rattle.verify_core.proofs.ReachLaws.{within}
 use Rattle.mir_machine.specs.Code.{code_of}
 use Rattle.verify_core.proofs.Basics.{some_same}
@@ -49,10 +45,6 @@ use Rattle.verify_core.proofs.Basics.{some_same}
 -- what passes the types fits
 pub typed_program_fits : (ds : List AdtDecl) (items : List Item) (p : TypedProgram) → checked ds items ≡ Ok p → ProgramFits ds p
 typed_program_fits ds items p e = answered_fits ds items (Ok p) e
-
--- and is plain, since the forms of tuples and structs and the names of declared types are not built
-pub typed_program_is_plain : (ds : List AdtDecl) (items : List Item) (p : TypedProgram) → first_unbuilt is_built items ≡ None → checked ds items ≡ Ok p → EachIsPlain p.functions
-typed_program_is_plain ds items p built e = plain_program ds items p (built_items_are_plain items built) e
 
 -- ---- what true obligations are worth
 
@@ -67,7 +59,7 @@ verified_at ps p f false tells e = absurd (true≢false (sym e))
 lowering : (source : List ℕ) (p : Program) → (prepared : IsPrepared source p) → Lowers p.names (declared_types prepared.is_typed.items) prepared.typed.functions p.bodies p.contracts prepared.gones
 lowering source p prepared =
     let t = prepared.is_typed in
-    record { lowers = prepared.lowers; fits = typed_program_fits (declared_types t.items) t.items prepared.typed t.is_typed; plain = typed_program_is_plain (declared_types t.items) t.items prepared.typed t.has.spelled.built t.is_typed }
+    record { lowers = prepared.lowers; fits = typed_program_fits (declared_types t.items) t.items prepared.typed t.is_typed; plain = each_is_plain prepared.typed.functions t.all_run }
 
 -- no proper call of a function of an accepted source is stuck
 pub accepted_is_never_stuck : (source : List ℕ) (p : Program) → IsPrepared source p → (Θ : Theory) (f : ℕ) (θ : Tys) (args held : List (Tree (Unit {0}))) (b : Body) (met : List Met) → IsProper Θ p.bodies f θ args held b met

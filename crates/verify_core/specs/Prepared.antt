@@ -1,8 +1,9 @@
 -- The program of a source, and why a source has none.
-use Rattle.std.specs.Prelude.{◌≡◌, ℕ, ◌+◌, ◌<◌, ◌≤◌, zero, suc, List, [], ◌∷◌, ◌++◌, length, Some, slice_get, Ok, Err}
+use Rattle.std.specs.Prelude.{◌≡◌, ℕ, ◌+◌, ◌<◌, ◌≤◌, zero, suc, List, [], ◌∷◌, ◌++◌, length, Some, None, slice_get, Ok, Err}
 use Rattle.text_core.specs.declared.refusal.Limit.{Limit}
 use Rattle.text_core.specs.declared.refusal.LimitKind.TheVariants.{SourceBytes, Blocks, Paths, Obligations}
 use Rattle.text_core.specs.declared.refusal.SourceError.{SourceError}
+use Rattle.text_core.specs.declared.span.Span.{Span}
 use Rattle.logic_term.specs.declared.obligation.Contract.{Contract}
 use Rattle.logic_term.specs.declared.obligation.Obligation.{Obligation}
 use Rattle.mir_ir.specs.declared.body.Body.{Body}
@@ -21,6 +22,8 @@ use Rattle.rs_types.specs.Checked.{AllPass, IsFirst}
 use Rattle.type_check.specs.Checked.{checked}
 use Rattle.type_check.specs.DeclaredTypes.{declared_types}
 use Rattle.type_check.specs.Declaring.{checks}
+use Rattle.type_check.specs.Answers.{unbuilt}
+use Rattle.type_check.specs.Unrun.{first_unrun}
 use Rattle.mir_build.specs.Lowering.{LowerTo, HasMoreBlocks}
 use Rattle.mir_build.specs.Whole.{HaveFewBlocks}
 use Rattle.verify_core.specs.declared.fault.Refusal.{Refusal}
@@ -59,12 +62,13 @@ pub record HasItems (source : List ℕ) (table : List (List ℕ)) (items : List 
   pub few : functions_among items ≤ most_functions
   pub gives : GivesNames [] source table
 
--- the items of the source declare what they may, and have these names and types
+-- the items of the source declare what they may, and have these names and types; nothing of them is of a kind that does not run yet
 pub record IsTypedAs (source : List ℕ) (table : List (List ℕ)) (typed : TypedProgram) : Type 0 where
   pub items : List Item
   pub has : HasItems source table items
   pub in_order : AreInOrder items
   pub is_typed : checked (declared_types items) items ≡ Ok typed
+  pub all_run : first_unrun typed ≡ None
 
 -- ---- obligations
 
@@ -128,11 +132,12 @@ pub record IsPrepared (source : List ℕ) (p : Program) : Type 0 where
 -- ---- refused sources
 
 -- the source is refused for this reason: it is none of the whole grammar, or has a form that is not built; or for what it declares; or by the names
--- and types of its code and formulas
+-- and types of its code and formulas; or for the first function or expression that does not run yet, which only its types tell
 pub data IsRefused (source : List ℕ) (error : SourceError) : Type 0 where
   by_form : IsSourceError [] source (errors.Source error) → IsRefused source error
   by_declarations : {table : List (List ℕ)} {items : List Item} → HasItems source table items → IsFirst (declared_types items) (checks items) error → IsRefused source error
   by_types : {table : List (List ℕ)} {items : List Item} → HasItems source table items → AreInOrder items → checked (declared_types items) items ≡ Err error → IsRefused source error
+  by_running : {table : List (List ℕ)} {items : List Item} {typed : TypedProgram} {place : Span} → HasItems source table items → AreInOrder items → checked (declared_types items) items ≡ Ok typed → first_unrun typed ≡ Some place → error ≡ unbuilt place → IsRefused source error
 
 -- a quantity of the source is past its bound, and those that are counted before it are not
 pub data IsPastLimit (source : List ℕ) : Limit → Type 0 where

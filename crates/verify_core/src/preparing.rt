@@ -1,10 +1,12 @@
 //! The passes over a source.
 ghost use Rattle.std.specs.Prelude.{◌≡◌, ◌+◌, ◌^◌, ◌<◌, ◌≤◌, ◌++◌, [], length, IfOk, IfErr, OnOk};
+ghost use Rattle.type_check.specs.Answers.{unbuilt};
 ghost use Rattle.type_check.specs.Checked.{AllGood};
 ghost use Rattle.type_check.specs.WellTyped.{ProgramFits};
 ghost use Rattle.mir_build.specs.Lowering.{IsLowered};
 ghost use Rattle.mir_build.specs.Laws.{Lowers};
 ghost use Rattle.mir_ir.specs.Body.{no_resolves};
+ghost use Rattle.verify_core.specs.declared.fault.Refusal.TheVariants as refusals;
 ghost use Rattle.verify_core.specs.Prepared.{IsPrepared, HaveFewPaths, RefusesSource};
 ghost use Rattle.verify_core.specs.Owed.{owing};
 ghost use Rattle.wp_gen.specs.Setting.{setting};
@@ -21,12 +23,23 @@ use proof_kernel::Tables;
 use prophecy_sim::Node;
 use rs_types::AdtTable;
 use std::alloc::Global;
-use text_core::{Items, Limit, LimitKind, Names, NoMemory};
-use type_check::{TypedProgram, check, declare};
+use text_core::{Code, Items, Limit, LimitKind, Names, NoMemory, SourceError, Span};
+use type_check::{TypedProgram, check, declare, first_unrun};
 use wp_gen::{OBLIGATIONS, Walk, check_paths, counted_obligations, room_after};
 
 /// The most bytes of a source.
 pub const SOURCE_BYTES: usize = 1 << 20;
+
+/// The refusal of what does not run yet.
+fn not_running(place: Span) -> Refusal
+    ensures { result ≡ refusals.Source (unbuilt place) }
+{
+    Refusal::Source(SourceError {
+        code: Code::E20,
+        span: place,
+        other: None,
+    })
+}
 
 /// The functions of a source, their names resolved and their expressions typed, and the types that it declares.
 fn typed_source(
@@ -44,7 +57,10 @@ fn typed_source(
     let items = built_items(alloc, source, names)?;
     let declared = declare(alloc, items.as_slice())?;
     let typed = check(alloc, items.as_slice(), &declared)?;
-    Ok((typed, declared.table))
+    match first_unrun(&typed) {
+        None => Ok((typed, declared.table)),
+        Some(place) => Err(not_running(place)),
+    }
 }
 
 /// That no body has more than 1,024 paths.

@@ -48,7 +48,7 @@ fn count_of_rvalue(kind: IntKind, rvalue: &Rvalue) -> usize
             Operation::Compared => 0,
         },
         Rvalue::Neg(_) => 1,
-        Rvalue::Use(_) | Rvalue::Not(_) | Rvalue::Make(_, _) => 0,
+        Rvalue::Use(_) | Rvalue::Not(_) | Rvalue::Widen(_, _) | Rvalue::Make(_, _) => 0,
     }
 }
 

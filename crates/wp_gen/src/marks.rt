@@ -69,6 +69,7 @@ fn mark_rvalue(marks: &mut [bool], rvalue: &Rvalue)
         }
         Rvalue::Neg(operand) => mark_operand(marks, operand),
         Rvalue::Not(operand) => mark_operand(marks, operand),
+        Rvalue::Widen(operand, _) => mark_operand(marks, operand),
         Rvalue::Make(_, operands) => mark_operands(marks, operands.as_slice()),
     }
 }

@@ -257,6 +257,7 @@ fn goals_of_kind(
         }
         Rvalue::Use(_) => Ok(Vec::new(alloc)),
         Rvalue::Not(_) => Ok(Vec::new(alloc)),
+        Rvalue::Widen(_, _) => Ok(Vec::new(alloc)),
         Rvalue::Make(_, _) => Ok(Vec::new(alloc)),
     }
 }

@@ -2,7 +2,7 @@
 ghost use Rattle.std.specs.Prelude.{◌≡◌, ◌∷◌, [], IfOk, Some, None, Option, slice_get};
 ghost use Rattle.logic_term.specs.Term.{model, var, is_less, is_at_most, is_equal};
 ghost use Rattle.mir_ir.specs.Body.{kind_in};
-ghost use Rattle.prophecy_logic.specs.Row.{name_of, operand_term, operand_ty, integer_term, compared_ty, equality, comparison, of_arithmetic, of_comparison, operation, new_integer, of_operation, of_negation, of_rvalue, commands_of};
+ghost use Rattle.prophecy_logic.specs.Row.{name_of, operand_term, operand_ty, integer_term, compared_ty, equality, comparison, of_arithmetic, of_comparison, operation, new_integer, of_operation, of_negation, of_widening, of_rvalue, commands_of};
 
 use crate::row::{
     integer_term, kind_of_local, name_of, operand_term, operand_terms, operation, value_name,
@@ -192,6 +192,19 @@ fn of_negation(alloc: Global, body: &Body, x: u32, a: &Operand) -> Result<Vec<Co
     new_integer(alloc, body, kind, x, exact)
 }
 
+fn of_widening(
+    alloc: Global,
+    body: &Body,
+    kind: IntKind,
+    x: u32,
+    a: &Operand,
+) -> Result<Vec<Command>, NoMemory>
+    ensures { IfOk result (λ v. v.items ≡ of_widening body.now kind x a.now) }
+{
+    let exact = integer_term(alloc, body, a)?;
+    new_integer(alloc, body, kind, x, exact)
+}
+
 fn of_rvalue(alloc: Global, body: &Body, x: u32, rvalue: &Rvalue) -> Result<Vec<Command>, NoMemory>
     ensures { IfOk result (λ v. v.items ≡ of_rvalue body.now (kind_in (slice_get body.now.locals x)) x rvalue.now) }
 {
@@ -207,6 +220,7 @@ fn of_rvalue(alloc: Global, body: &Body, x: u32, rvalue: &Rvalue) -> Result<Vec<
             let opposite = Term::not(alloc, value)?;
             one_command(alloc, Command::Set(name_of(body, x), opposite))
         }
+        Rvalue::Widen(a, kind) => of_widening(alloc, body, *kind, x, a),
         Rvalue::Make(ctor, parts) => {
             let parts = operand_terms(alloc, body, parts.as_slice())?;
             let value = Term::made(alloc, *ctor, parts)?;

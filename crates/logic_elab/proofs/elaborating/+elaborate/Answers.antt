@@ -38,7 +38,12 @@ elaborate_under-loop-operation-preserved g t c =
       smaller = sizes.0;
     }
 
-pub elaborate_form-returns-in-Quantified-Forall-default-default : goal.elaborate_form-returns-in-Quantified-Forall-default-default
-elaborate_form-returns-in-Quantified-Forall-default-default g t c =
-    let h = c.elaborate_forall.ensures (span_of c.args.t.now) in
+pub elaborate_form-returns-in-If : goal.elaborate_form-returns-in-If
+elaborate_form-returns-in-If g t c =
+    let h = c.elaborate_choice.ensures (span_of c.args.t.now) in
+    search (rules, h)
+
+pub elaborate_form-returns-in-Quantified : goal.elaborate_form-returns-in-Quantified
+elaborate_form-returns-in-Quantified g t c =
+    let h = c.elaborate_quantified.ensures (span_of c.args.t.now) in
     search (rules, h)

@@ -1,4 +1,4 @@
-use Rattle.std.proofs.Common.{◌≡◌, ◌≤◌, ◌+◌, ◌*◌, [], length, Ok}
+use Rattle.std.proofs.Common.{◌≡◌, ◌≤◌, ◌+◌, ◌*◌, max, [], length, Ok}
 use Rattle.source_trees.specs.PtermView.{pterm_size}
 use Rattle.logic_elab.specs.Chains.{climbed, operation_size, operations_size}
 use Rattle.logic_elab.specs.Elaborated.{elaborated_under}
@@ -14,8 +14,11 @@ decreases-elaborate_form g l = 4 * pterm_size l.t.now
 abbrev pub decreases-elaborate_formula_under : goal.decreases-elaborate_formula_under
 decreases-elaborate_formula_under g l = 4 * pterm_size l.t.now + 2
 
-abbrev pub decreases-elaborate_forall : goal.decreases-elaborate_forall
-decreases-elaborate_forall g l = 4 * pterm_size l.body.now + 3
+abbrev pub decreases-elaborate_quantified : goal.decreases-elaborate_quantified
+decreases-elaborate_quantified g l = 4 * pterm_size l.body.now + 3
+
+abbrev pub decreases-elaborate_choice : goal.decreases-elaborate_choice
+decreases-elaborate_choice g l = 4 * max (pterm_size l.condition.now) (max (pterm_size l.first.now) (pterm_size l.second.now)) + 3
 
 abbrev pub decreases-elaborate_behind : goal.decreases-elaborate_behind
 decreases-elaborate_behind g l = 4 * operation_size l.operation

@@ -1,0 +1,54 @@
+-- What does not run in typed blocks and calls, part by part.
+use Rattle.std.proofs.Common.{◌≡◌, ◌∙◌, ◌==◌, ℕ, suc, ◌+◌, ◌<◌, Bool, true, false, List, [], ◌∷◌, length, get_or, drop, drop-cons, add-one, arith, refl, ap, sym, Option, Some, None}
+use Rattle.std.proofs.lemmas.Bool.Decides.{nat_tests}
+use Rattle.text_core.specs.declared.span.Span.{Span}
+use Rattle.logic_term.specs.Ty.{Ty, tuple}
+use Rattle.logic_term.specs.TyView.{tys_of}
+use Rattle.type_check.specs.declared.typed.TypedStmt.{TypedStmt}
+use Rattle.type_check.specs.TypedExpr.{TypedExpr, TypedStmts, done, last, leaving}
+use Rattle.type_check.specs.TypedExprFalls.{each_smaller}
+use Rattle.type_check.specs.TypedExprView.{exprs_of, stmt_of, stmts_of}
+use Rattle.type_check.specs.Unrun.{earlier, is_scalar, unrun_among, unrun_in, unrun_in_statements}
+use Rattle.type_check.proofs.TypedParts.{begin_smaller, last_smaller, leaving_smaller, stmt_smaller}
+
+-- the tuple of no parts
+pub empty_parts : (ts : List Ty) → (length ts == 0) ≡ is_scalar (tuple (tys_of ts))
+empty_parts [] = refl
+empty_parts (t ∷ ts) = grind (arith, nat_tests)
+
+pub joined : (a b c : Option Span) → earlier a (earlier b c) ≡ earlier (earlier a b) c
+joined (Some s) b c = refl
+joined None b c = refl
+
+stmt_unrun : (b : Bool) (e : TypedExpr) (ss : TypedStmts) → unrun_in_statements (stmt_of b e ss) ≡ earlier (unrun_in e) (unrun_in_statements ss)
+stmt_unrun true e ss = refl
+stmt_unrun false e ss = refl
+
+-- the statements, and then the last expression
+pub unrun_at_last : (ss : List TypedStmt) (e : TypedExpr) → unrun_in_statements (stmts_of ss (last e)) ≡ earlier (unrun_in_statements (stmts_of ss done)) (unrun_in e)
+unrun_at_last [] e = refl
+unrun_at_last (s ∷ ss) e =
+    stmt_unrun s.binds s.value (stmts_of ss (last e))
+    ∙ ap (earlier (unrun_in s.value)) (unrun_at_last ss e)
+    ∙ joined (unrun_in s.value) (unrun_in_statements (stmts_of ss done)) (unrun_in e)
+    ∙ ap (λ m. earlier m (unrun_in e)) (sym (stmt_unrun s.binds s.value (stmts_of ss done)))
+
+-- the statements, and then the last one, which leaves
+pub unrun_at_leaving : (ss : List TypedStmt) (e : TypedExpr) → unrun_in_statements (stmts_of ss (leaving e)) ≡ earlier (unrun_in_statements (stmts_of ss done)) (unrun_in e)
+unrun_at_leaving [] e = refl
+unrun_at_leaving (s ∷ ss) e =
+    stmt_unrun s.binds s.value (stmts_of ss (leaving e))
+    ∙ ap (earlier (unrun_in s.value)) (unrun_at_leaving ss e)
+    ∙ joined (unrun_in s.value) (unrun_in_statements (stmts_of ss done)) (unrun_in e)
+    ∙ ap (λ m. earlier m (unrun_in e)) (sym (stmt_unrun s.binds s.value (stmts_of ss done)))
+
+pub unrun_exprs_at : (es : List TypedExpr) (i : ℕ) (e : TypedExpr) → e ≡ get_or es i e → i < length es → unrun_among (exprs_of (drop i es)) ≡ earlier (unrun_in e) (unrun_among (exprs_of (drop (i + 1) es)))
+unrun_exprs_at es i e q h = rw (add-one, drop-cons es i e h) (ap (λ x. earlier (unrun_in x) (unrun_among (exprs_of (drop (suc i) es)))) (sym q))
+
+pub unrun_stmts_at : (ss : List TypedStmt) (i : ℕ) (s : TypedStmt) → s ≡ get_or ss i s → i < length ss → unrun_in_statements (stmts_of (drop i ss) done) ≡ earlier (unrun_in s.value) (unrun_in_statements (stmts_of (drop (i + 1) ss) done))
+unrun_stmts_at ss i s q h =
+    rw (add-one, drop-cons ss i s h)
+    (stmt_unrun (get_or ss i s).binds (get_or ss i s).value (stmts_of (drop (suc i) ss) done)
+    ∙ ap (λ (x : TypedStmt). earlier (unrun_in x.value) (unrun_in_statements (stmts_of (drop (suc i) ss) done))) (sym q))
+
+pub ruleset unrun_parts = (joined, each_smaller, begin_smaller, last_smaller, leaving_smaller, stmt_smaller, unrun_at_last, unrun_at_leaving, unrun_exprs_at, unrun_stmts_at)

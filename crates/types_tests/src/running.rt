@@ -1,0 +1,80 @@
+//! What of a program does not run yet, from the texts of sources.
+use rs_syntax::parse;
+use source_trees::Item;
+use std::alloc::Global;
+use std::test::Fail;
+use text_core::{Names, PassError, Span};
+use type_check::{check, declare, first_unrun};
+
+/// A source, and the place of the first function or expression that does not run.
+type Row = (&'static [u8], Option<(u32, u32)>);
+
+fn first_of(alloc: Global, items: &[Item]) -> Result<Option<Span>, PassError> {
+    let declared = declare(alloc, items)?;
+    let program = check(alloc, items, &declared)?;
+    Ok(first_unrun(&program))
+}
+
+/// Whether the code of the source is answered so.
+fn is_right(alloc: Global, row: &Row) -> bool {
+    let source = row.0;
+    if source.len() > 1000 {
+        return false;
+    }
+    let mut names = Names::new(alloc);
+    let Ok(items) = parse(alloc, source, &mut names) else {
+        return false;
+    };
+    match (first_of(alloc, items.as_slice()), row.1) {
+        (Ok(None), None) => true,
+        (Ok(Some(span)), Some((start, end))) => span.start == start && span.end == end,
+        _ => false,
+    }
+}
+
+const FIRST_UNRUN: [Row; 15] = [
+    (b"fn f() {}", None),
+    (b"fn f(x: i32) -> bool { let y = x + 1; y < 2 }", None),
+    (b"struct P { x: i32 } fn f() -> i32 { 1 }", None),
+    (b"struct P { x: i32 } fn g(p: P) {}", Some((23, 24))),
+    (b"fn g() -> (i32, u8) { (1, 2) }", Some((3, 4))),
+    (
+        b"fn f() {} fn g(t: (i32, u8)) { t.0; } fn h(t: (u8, u8)) {}",
+        Some((13, 14)),
+    ),
+    (b"fn f() { let t = (1, 2); }", Some((17, 23))),
+    (b"fn f() { let t = (); }", Some((17, 19))),
+    (b"fn f() -> i32 { (1, true).0 }", Some((16, 25))),
+    (b"fn f(x: i32) -> i32 { x + (1, 2).0 }", Some((26, 32))),
+    (
+        b"fn f() -> i32 { ((1, 2).0 + 3) + (4, 5).1 }",
+        Some((17, 23)),
+    ),
+    (
+        b"fn f() -> i32 { (3 + (1, 2).0) + (4, 5).1 }",
+        Some((21, 27)),
+    ),
+    (
+        b"fn f(x: i32) { if x < 1 { } else { while (1, true).1 { } } }",
+        Some((41, 50)),
+    ),
+    (
+        b"fn f() { return; } fn g() { f(); ((1, 2), 3); }",
+        Some((34, 40)),
+    ),
+    (
+        b"struct P { x: i32 } fn f() -> i32 { P { x: 1 }.x }",
+        Some((36, 46)),
+    ),
+];
+
+/// The first in source order, an expression behind its parts, and a function at its name, before its body.
+#[test]
+fn the_first_that_does_not_run(rt: HostRuntime) {
+    let mut at = 0u32;
+    for row in &FIRST_UNRUN {
+        let right = is_right(rt.alloc(), row);
+        assert!(rt; right, "row {at}");
+        at = at.wrapping_add(1);
+    }
+}
