@@ -7,6 +7,7 @@ pub mod GivenTypes
 pub mod NeverStuck
 pub mod OperandsFirst
 pub mod Operators
+pub mod PathRows
 pub mod Paths
 pub mod Places
 pub mod Returns
