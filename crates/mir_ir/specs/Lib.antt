@@ -4,3 +4,4 @@ pub mod Acts
 pub mod WellFormed
 pub mod Layout
 pub mod Names
+pub mod Paths

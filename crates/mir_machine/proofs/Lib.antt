@@ -7,6 +7,8 @@ pub mod GivenTypes
 pub mod NeverStuck
 pub mod OperandsFirst
 pub mod Operators
+pub mod PathRows
+pub mod Paths
 pub mod Places
 pub mod Returns
 pub mod RightSides

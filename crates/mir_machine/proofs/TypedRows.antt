@@ -173,7 +173,7 @@ module _ {K : Type 0} (Δ : Declarations) (b : Body) (θ : Tys) (n : ℕ) (insid
       (λ other. ((h.slot y ty is_ty).0, written_apart w (local_at n y) (λ e d. other d) ∙ (h.slot y ty is_ty).1))
       (apart x y)
 
-  pub held_gone : {s u : State K} {ks : List Stop} {set : Locals} (x : ℕ) → Written s (local_at n x) Gone ks u → Held s set → Held u (without x set)
+  pub held_gone : {s u : State K} {ks : List Stop} {set : Locals} {v : Tree K} (x : ℕ) → Written s (local_at n x) v ks u → Held s set → Held u (without x set)
   held_gone {s} {u} {ks} {set} x w h = record {
     slot = slot_written x w h;
     typed = λ y ty t is_in is_ty e.

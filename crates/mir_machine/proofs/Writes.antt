@@ -29,7 +29,7 @@ put_in_child {K} n path t u w (Yields c) is_c h below =
 put_in_child n path t u w (Panics c s) is_c h below = absurd (cc)
 put_in_child n path t u w Sticks is_c h below = absurd (cc)
 
-put_in_goes : {K : Type 0} (path : List ℕ) (t u w : Tree K) → tree_in path t ≡ Yields w → Puts path u t
+pub put_in_goes : {K : Type 0} (path : List ℕ) (t u w : Tree K) → tree_in path t ≡ Yields w → Puts path u t
 put_in_goes [] t u w e = (u, refl, refl)
 put_in_goes {K} (n ∷ path) t u w e = put_in_child n path t u w (child t n) refl e (λ c h. put_in_goes path c u w h)
 
