@@ -5,7 +5,7 @@ use Rattle.text_core.specs.declared.name.Name.{Name}
 use Rattle.logic_term.specs.Free.{free}
 use Rattle.logic_term.specs.Sorted.{Sorted, OperatorSort, one_ty, two_tys, with_sort}
 use Rattle.logic_term.specs.Sorted as sorts
-use Rattle.logic_term.specs.Term.{Term, Operator, var, one, two, modeled, negated, denied, arith as by_op, less, at_most, equal, both, either, implied, Quantifier, bind, choice, if_else}
+use Rattle.logic_term.specs.Term.{Term, Operator, var, one, two, modeled, negated, denied, arith as by_op, less, at_most, equal, both, either, implied, Quantifier, bind, if_else}
 use Rattle.logic_term.specs.Theory.{Theory}
 use Rattle.logic_term.specs.Ty.{Ty, int, bool, math_int, and_ty}
 use Rattle.logic_term.proofs.FreeLaw.{same_test, same_name}

@@ -1,5 +1,5 @@
 -- A term's values have its sort.
-use Rattle.std.proofs.Common.{◌≡◌, refl, ◌⊎◌, inl, inr, ◌∙◌, sym, ap, ℕ, zero, suc, ℤ, Bool, true, false, Option, Some, None}
+use Rattle.std.proofs.Common.{◌≡◌, refl, ◌⊎◌, inl, inr, ◌∙◌, sym, ap, ℕ, zero, suc, ℤ, Bool, true, false, Some}
 use Rattle.source_kinds.specs.declared.kinds.IntKind.{IntKind}
 use Rattle.source_kinds.specs.Range.{fits}
 use Rattle.logic_term.specs.declared.kinds.Ctor.{Ctor}
@@ -10,7 +10,7 @@ use Rattle.logic_term.specs.Sorted.{Scope, MadeSort, FieldSort, sort_at, Operato
 use Rattle.logic_term.specs.Term.{Operator, modeled, negated, denied, field, arith, less, at_most, equal, both, either, implied, choice, made, every, some, Term, Terms, var, lit, truth, apply, bind, no_terms, and_term, count}
 use Rattle.logic_term.specs.Theory.{Theory, declared}
 use Rattle.logic_term.specs.Ty.{Ty, Tys, int, bool, math_int, tuple, adt, no_tys, and_ty}
-use Rattle.logic_term.specs.Value.{Value, Values, Number, Flag, Made, parts_of, nth_value, nth_part}
+use Rattle.logic_term.specs.Value.{Value, Values, Number, Flag, Made, nth_value, nth_part}
 use Rattle.logic_term.proofs.SortParts.{instances_instances, parts, all_parts}
 
 same_some : {A : Type 0} (x y : A) → Some x ≡ Some y → x ≡ y

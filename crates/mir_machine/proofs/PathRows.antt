@@ -1,5 +1,5 @@
 -- Reading, writing and moving along a path from a local of the running frame.
-use Rattle.std.proofs.Common.{◌≡◌, ◌∙◌, refl, sym, ap, subst, ℕ, true, List, [], ◌∷◌, Option, Some, None, slice_get, slice_set}
+use Rattle.std.proofs.Common.{◌≡◌, ◌∙◌, refl, ap, ℕ, true, List, [], Option, Some, None, slice_get, slice_set}
 use Rattle.logic_term.specs.Sort.{Declarations, instance}
 use Rattle.logic_term.specs.Ty.{Ty, Tys}
 use Rattle.mir_ir.specs.declared.body.Body.{Body}
@@ -10,10 +10,10 @@ use Rattle.mir_machine.specs.Try.{Try, Yields, Panics, Sticks, ◌>>=◌, need}
 use Rattle.mir_machine.specs.Tree.{Tree, Gone}
 use Rattle.mir_machine.specs.Frame.{Frame, State}
 use Rattle.mir_machine.specs.Memory.{tree_in, put_in, frame_at, set_frame, tree_at, put_at, walk, running, spot_of, is_there, read, write}
-use Rattle.mir_machine.specs.Invariant.{Stop, stops, local_at, HasType, HoldsLocals}
-use Rattle.mir_machine.proofs.TypedTrees.{has_shape, has_type_kept}
-use Rattle.mir_machine.proofs.Writes.{Written, put_yields, put_in_goes, SameElsewhere, written_elsewhere}
-use Rattle.mir_machine.proofs.TypedRows.{Held, outside_same, held_set, held_gone, local_read}
+use Rattle.mir_machine.specs.Invariant.{stops, local_at, HasType, HoldsLocals}
+use Rattle.mir_machine.proofs.TypedTrees.{has_shape}
+use Rattle.mir_machine.proofs.Writes.{put_yields, put_in_goes, SameElsewhere, written_elsewhere}
+use Rattle.mir_machine.proofs.TypedRows.{held_set, held_gone, local_read}
 use Rattle.mir_machine.proofs.Paths.{within_spot, tree_within, Reached, reached}
 
 -- what is put at a part of a local is put by the whole local with that part

@@ -1,19 +1,19 @@
 -- Reading and writing along a path of a typed tree: what is there has the type to which the path leads, and what gets another value of that type there keeps its own.
-use Rattle.std.proofs.Common.{◌≡◌, ◌∙◌, refl, sym, ap, subst, ℕ, zero, suc, List, [], ◌∷◌, ◌++◌, append_assoc, append-nil, Option, Some, None, slice_get}
+use Rattle.std.proofs.Common.{◌≡◌, ◌∙◌, refl, sym, ap, subst, ℕ, zero, suc, List, [], ◌∷◌, ◌++◌, append_assoc, append-nil, Some, slice_get}
 use Rattle.std.proofs.lemmas.Option.{same_Some}
 use Rattle.logic_term.specs.declared.kinds.Ctor.{Ctor}
 use Rattle.logic_term.specs.declared.kinds.Ctor.TheVariants.{Tuple, Variant}
 use Rattle.logic_term.specs.Sort.{Declarations, instances}
-use Rattle.logic_term.specs.Ty.{Ty, Tys, tuple, adt, boxed, no_tys, and_ty}
+use Rattle.logic_term.specs.Ty.{Ty, Tys, boxed, no_tys, and_ty}
 use Rattle.mir_ir.specs.declared.place.Proj.{Proj}
 use Rattle.mir_ir.specs.declared.place.Proj.TheVariants.{Field, Deref}
-use Rattle.mir_ir.specs.Paths.{part_ty, HasOneVariant, LeadsTo, at_end, in_tuple, in_struct, in_box}
+use Rattle.mir_ir.specs.Paths.{part_ty, LeadsTo, at_end, in_tuple, in_struct, in_box}
 use Rattle.mir_machine.specs.declared.spot.Spot.{Spot}
-use Rattle.mir_machine.specs.Try.{Try, Yields, Panics, Sticks, ◌>>=◌, need}
+use Rattle.mir_machine.specs.Try.{Try, Yields, ◌>>=◌, need}
 use Rattle.mir_machine.specs.Tree.{Tree, Trees, Made, Boxed, no_trees, and_tree, nth_tree, set_nth}
 use Rattle.mir_machine.specs.Frame.{Frame, State}
 use Rattle.mir_machine.specs.Memory.{child, tree_in, put_in, frame_at, tree_at, down, onward, walk}
-use Rattle.mir_machine.specs.Typed.{Met, Typed, AreTyped, is_tuple, is_adt, is_boxed, none_typed, more_typed}
+use Rattle.mir_machine.specs.Typed.{Met, Typed, AreTyped, is_tuple, is_adt, is_boxed, more_typed}
 use Rattle.mir_machine.specs.Good.{Each}
 use Rattle.mir_machine.specs.Invariant.{HasType}
 use Rattle.mir_machine.proofs.Tried.{then_then, then_same}

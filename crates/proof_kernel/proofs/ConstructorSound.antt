@@ -1,5 +1,5 @@
 -- Equal values of one constructor have equal parts, and values of two constructors are not equal.
-use Rattle.std.proofs.Common.{◌≡◌, ℕ, ◌==◌, ◌&&◌, Bool, true, false, cond, List, [], ◌∷◌, ◌≢◌, ◌⊎◌, inl, inr, length, Option, Some, None, refl, sym, ◌∙◌, ap, ap₂, subst}
+use Rattle.std.proofs.Common.{◌≡◌, ◌==◌, ◌&&◌, Bool, true, false, cond, List, [], ◌≢◌, ◌⊎◌, inl, inr, length, Option, Some, None, refl, sym, ◌∙◌, ap, ap₂, subst}
 use Rattle.std.proofs.lemmas.Bool.{eqb-true, eq-eqb}
 use Rattle.logic_term.specs.declared.kinds.AdtId.{AdtId}
 use Rattle.logic_term.specs.declared.kinds.Ctor.{Ctor}
@@ -8,7 +8,7 @@ use Rattle.logic_term.specs.Matches.{same_ctor}
 use Rattle.logic_term.specs.Meaning.{Sure, Each, Structure, Env, Means, Argument, Holds}
 use Rattle.logic_term.specs.Term.{equal, made, Term, Terms, apply, no_terms, and_term, count, is_equal}
 use Rattle.logic_term.specs.TermView.{terms_of}
-use Rattle.logic_term.specs.Value.{Value, Values, Made, no_values, and_value}
+use Rattle.logic_term.specs.Value.{Value, Values, Made, and_value}
 use Rattle.logic_term.proofs.Pairs.{count_terms}
 use Rattle.logic_term.proofs.Truth.{holds_equal}
 use Rattle.logic_term.proofs.Unique.{single, has_value}

@@ -1,5 +1,5 @@
 -- The rules by terms are sound.
-use Rattle.std.proofs.Common.{◌≡◌, ℕ, ◌==◌, not, Bool, true, false, cond, List, [], ◌∷◌, Option, Some, None, refl, sym, ◌∙◌, ap, subst}
+use Rattle.std.proofs.Common.{◌≡◌, ℕ, ◌==◌, not, Bool, true, false, cond, List, [], Option, Some, None, refl, sym, ◌∙◌, ap, subst}
 use Rattle.std.specs.Option.{option_map}
 use Rattle.std.specs.Prelude.{ℤ, int_le, Result, Ok, Err}
 use Rattle.text_core.specs.declared.name.Name.{Name}
@@ -24,18 +24,17 @@ use Rattle.logic_term.proofs.Truth.{holds_not, holds_at_most, computes_model}
 use Rattle.logic_term.proofs.Unique.{has_value}
 use Rattle.logic_elab.specs.declared.scope.Symbol.{Symbol}
 use Rattle.logic_elab.specs.declared.sorted.SortedTerm.{SortedTerm}
-use Rattle.logic_elab.specs.Elaborated.{elaborated}
 use Rattle.logic_elab.specs.Laws.{GivesSorts}
-use Rattle.logic_elab.specs.Sorts.{is_bool, is_math_int}
+use Rattle.logic_elab.specs.Sorts.{is_math_int}
 use Rattle.logic_elab.proofs.SortLaw.{terms_are_sorted}
 use Rattle.proof_kernel.specs.Sequent.{Sequent, InSorts, AllHold, IsTrueAt, AllTrueAt}
 use Rattle.proof_kernel.specs.declared.step.TermRule.{TermRule}
 use Rattle.proof_kernel.specs.declared.step.TermRule.TheVariants.{Cut, On, Range}
 use Rattle.proof_kernel.specs.Rules.{sort_of}
-use Rattle.proof_kernel.specs.TermRules.{symbol, scope_of, if_sorted, term_at, assuming_all, formula, shown_first, true_or_false, bounds, bounds_at, by_term, by_term_if, term_rule, division, number, number_if, division_of, division_rule}
+use Rattle.proof_kernel.specs.TermRules.{symbol, scope_of, if_sorted, term_at, assuming_all, formula, shown_first, true_or_false, bounds, bounds_at, by_term, by_term_if, term_rule, division, number_if, division_of, division_rule}
 use Rattle.proof_kernel.proofs.DivisionSound.{division_holds}
 use Rattle.proof_kernel.proofs.Facts.{AllTrue, surely_true, reduced_hold}
-use Rattle.proof_kernel.proofs.FormsFound.{same_some, picked, mapped}
+use Rattle.proof_kernel.proofs.FormsFound.{same_some, picked}
 use Rattle.proof_kernel.proofs.GoalSound.{these_true}
 use Rattle.proof_kernel.proofs.LinearSound.{exact}
 use Rattle.proof_kernel.proofs.Sound.{and_true, hyps_more, sorted}

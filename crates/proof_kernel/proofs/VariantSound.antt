@@ -1,5 +1,5 @@
 -- The steps by variants are sound: a value of an enum is one of its variants, and values are made of smaller ones.
-use Rattle.std.proofs.Common.{◌≡◌, ℕ, zero, suc, ◌+◌, ◌==◌, ◌&&◌, not, Bool, true, false, cond, List, [], ◌∷◌, ◌++◌, length, map, Option, Some, None, slice_get, refl, sym, ◌∙◌, ap, subst, arith, true≢false, eqb-true}
+use Rattle.std.proofs.Common.{◌≡◌, ℕ, zero, suc, ◌+◌, ◌==◌, Bool, true, false, cond, List, [], ◌∷◌, ◌++◌, length, map, Option, Some, None, slice_get, refl, sym, ◌∙◌, ap, subst, arith, eqb-true}
 use Rattle.std.specs.Prelude.{zip}
 use Rattle.std.specs.Option.{option_map}
 use Rattle.text_core.specs.declared.name.Name.{Name}
@@ -8,17 +8,14 @@ use Rattle.logic_term.specs.declared.declaration.FieldDecl.{FieldDecl}
 use Rattle.logic_term.specs.declared.declaration.VariantDecl.{VariantDecl}
 use Rattle.logic_term.specs.declared.kinds.AdtId.{AdtId}
 use Rattle.logic_term.specs.declared.kinds.Ctor.TheVariants.{Variant}
-use Rattle.logic_term.specs.declared.kinds.Label2.{Label2}
 use Rattle.logic_term.specs.declared.kinds.Region.{Region}
 use Rattle.logic_term.specs.Canonical.{is_one_of}
 use Rattle.logic_term.specs.Erased.{erased, all_erased}
-use Rattle.logic_term.specs.Free.{free, free_in_some}
-use Rattle.logic_term.specs.Meaning.{Sure, Each, Structure, Env, with_value, Means, Argument, Holds}
-use Rattle.logic_term.specs.Normal.{reduced}
+use Rattle.logic_term.specs.Free.{free}
+use Rattle.logic_term.specs.Meaning.{Each, Structure, Env, with_value, Means, Argument, Holds}
 use Rattle.logic_term.specs.Sort.{Declarations, HasSort, HaveSorts, instance, instances}
-use Rattle.logic_term.specs.Sorted.{Scope, with_sort, Sorted, AllSorted}
-use Rattle.logic_term.specs.Subst.{look, with_terms}
-use Rattle.logic_term.specs.Term.{Term, Terms, var, lit, truth, apply, bind, no_terms, and_term, count, is_equal}
+use Rattle.logic_term.specs.Subst.{with_terms}
+use Rattle.logic_term.specs.Term.{Term, Terms, var, count, is_equal}
 use Rattle.logic_term.specs.TermView.{terms_of}
 use Rattle.logic_term.specs.Theory.{Theory, field_ty, fields_of, variant_of, declared}
 use Rattle.logic_term.specs.Ty.{Ty, Tys, int, bool, math_int, tuple, adt, boxed, shared, unique, param, closure, viewed, snapshot, no_tys, and_ty}
@@ -28,7 +25,7 @@ use Rattle.logic_term.proofs.Alike.{Alike, alike_same, sure_map, from, yes_alike
 use Rattle.logic_term.proofs.CanonicalLaw.{reduced_means}
 use Rattle.logic_term.proofs.Coincide.{with_same}
 use Rattle.logic_term.proofs.Erased.{has_erased, has_type}
-use Rattle.logic_term.proofs.FreeLaw.{coincide_free, same_name, same_test, or_cases}
+use Rattle.logic_term.proofs.FreeLaw.{coincide_free, same_name, same_test}
 use Rattle.logic_term.proofs.PlacedLaw.{with_terms_means}
 use Rattle.logic_term.proofs.SortParts.{parts, all_parts, instance_instance}
 use Rattle.logic_term.proofs.Truth.{Exactly, holds_equal}
@@ -40,12 +37,12 @@ use Rattle.source_trees.specs.Pterm.{Pterm}
 use Rattle.proof_kernel.specs.Sequent.{Sequent, InSorts, AllHold, IsTrueAt, AllTrueAt}
 use Rattle.proof_kernel.specs.Rules.{sort_of, free_in_hyps, AreNew, labelled, without_variable}
 use Rattle.proof_kernel.specs.TermRules.{term_at}
-use Rattle.proof_kernel.specs.VariantRules.{Enum, enum_in, enum_of, field_sort, Case, case_of, cases_in, field_variables, case_term, AllNew, By, analysis, induction, at_term, at_each, premise_of, in_variants, on_sorted, variants_rule, induct_sorted, induction_rule}
+use Rattle.proof_kernel.specs.VariantRules.{Enum, enum_in, enum_of, field_sort, Case, case_of, cases_in, case_term, AllNew, By, analysis, induction, at_term, at_each, premise_of, in_variants, on_sorted, variants_rule, induct_sorted, induction_rule}
 use Rattle.proof_kernel.proofs.Each.{Each as All}
-use Rattle.proof_kernel.proofs.FormsFound.{same_some, picked, mapped}
+use Rattle.proof_kernel.proofs.FormsFound.{same_some, mapped}
 use Rattle.proof_kernel.proofs.IntroSound.{apart, among_new, not_both, AreApart, new_apart, Off, off_more, sorts_off, hyps_off}
 use Rattle.proof_kernel.proofs.LinearSound.{exact}
-use Rattle.proof_kernel.proofs.Sound.{and_true, hyps_more, sorted}
+use Rattle.proof_kernel.proofs.Sound.{hyps_more, sorted}
 use Rattle.proof_kernel.proofs.TermSound.{value_sorted, term_names_there}
 
 -- ---- sorts of types

@@ -1,5 +1,5 @@
 -- What the steps by variants add is their own.
-use Rattle.std.proofs.Common.{◌≡◌, ℕ, suc, ◌==◌, Bool, true, false, cond, List, [], ◌∷◌, ◌++◌, length, map, flat_map, Option, Some, None, refl, sym, ◌∙◌, ap, subst}
+use Rattle.std.proofs.Common.{◌≡◌, ℕ, suc, ◌==◌, Bool, true, false, cond, List, [], ◌∷◌, ◌++◌, length, map, flat_map, Option, Some, None, subst}
 use Rattle.std.specs.Prelude.{zip}
 use Rattle.std.specs.Option.{option_map}
 use Rattle.text_core.specs.declared.name.Name.{Name}
@@ -14,12 +14,12 @@ use Rattle.logic_term.specs.Ty.{Ty, Tys}
 use Rattle.logic_elab.specs.declared.sorted.SortedTerm.{SortedTerm}
 use Rattle.source_trees.specs.Pterm.{Pterm}
 use Rattle.proof_kernel.specs.Sequent.{Sequent}
-use Rattle.proof_kernel.specs.Rules.{label, labelled, sort_of, without_variable}
+use Rattle.proof_kernel.specs.Rules.{label, sort_of, without_variable}
 use Rattle.proof_kernel.specs.TermRules.{term_at}
 use Rattle.proof_kernel.specs.VariantRules.{Enum, enum_of, Case, case_of, cases_in, case_term, field_variables, By, analysis, induction, at_each, with_variables, premise_of, in_variants, on_sorted, variants_rule, induct_sorted, induction_rule}
 use Rattle.proof_kernel.proofs.Each.{Each, Has, each_and}
-use Rattle.proof_kernel.proofs.FormsAdd.{Labels, labels_own, more_has}
-use Rattle.proof_kernel.proofs.FormsFound.{same_some, mapped, picked}
+use Rattle.proof_kernel.proofs.FormsAdd.{labels_own, more_has}
+use Rattle.proof_kernel.proofs.FormsFound.{same_some, mapped}
 
 abbrev Variables : (Name → Type 0) → List (Name × Ty) → Type 0
 Variables N vs = Each (λ (v : Name × Ty). N v.0) vs

@@ -1,6 +1,6 @@
 -- What an equation of values that constructors made says: of one constructor, that the parts are equal; different ones make no value in common
 -- (Comon, Dauchet et al. 2008, Tree Automata, on free constructors).
-use Rattle.std.specs.Prelude.{◌&&◌, ◌==◌, not, Bool, true, false, List, [], ◌∷◌, Option, Some, None, if◌then◌else◌}
+use Rattle.std.specs.Prelude.{◌&&◌, ◌==◌, not, Bool, false, List, [], ◌∷◌, Option, Some, None, if◌then◌else◌}
 use Rattle.logic_term.specs.declared.kinds.Ctor.{Ctor}
 use Rattle.logic_term.specs.Matches.{same_ctor}
 use Rattle.logic_term.specs.Term.{equal, made, Term, Terms, apply, no_terms, and_term, count, is_equal}

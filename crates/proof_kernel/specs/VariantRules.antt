@@ -1,6 +1,6 @@
 -- What the steps by the variants of an enum give: a premise for each variant, in declared order. They are case analysis, and induction over the
 -- form of values (Burstall 1969, structural induction).
-use Rattle.std.specs.Prelude.{ℕ, suc, ◌==◌, Bool, true, false, List, [], ◌∷◌, ◌++◌, length, map, zip, Option, Some, None, slice_get, if◌then◌else◌}
+use Rattle.std.specs.Prelude.{ℕ, suc, ◌==◌, List, [], ◌∷◌, ◌++◌, length, map, zip, Option, Some, None, slice_get, if◌then◌else◌}
 use Rattle.std.specs.Option.{option_map}
 use Rattle.text_core.specs.declared.name.Name.{Name}
 use Rattle.logic_term.specs.declared.declaration.AdtDecl.{AdtDecl}

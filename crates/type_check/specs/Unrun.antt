@@ -1,6 +1,6 @@
 -- The first function or expression of a program that does not run yet, since it is not plain: in source order, where a function stands at its name, before
 -- its body, and an expression stands behind its parts.
-use Rattle.std.specs.Prelude.{◌≡◌, Bool, true, false, ◌&&◌, List, [], ◌∷◌, Option, Some, None}
+use Rattle.std.specs.Prelude.{Bool, true, false, ◌&&◌, List, [], ◌∷◌, Option, Some, None}
 use Rattle.text_core.specs.declared.span.Span.{Span}
 use Rattle.logic_term.specs.Ty.{Ty, int, bool, tuple, no_tys}
 use Rattle.type_check.specs.declared.program.TypedFunction.{TypedFunction}

@@ -1,4 +1,4 @@
-use Rattle.std.proofs.Common.{rules, ◌≡◌, true, List, subst}
+use Rattle.std.proofs.Common.{rules, List, subst}
 use Rattle.std.specs.Prelude.{IsTrue}
 use Rattle.text_core.specs.declared.name.Name.{Name}
 use Rattle.logic_term.specs.declared.declaration.AdtDecl.{AdtDecl}
