@@ -8,7 +8,9 @@ ghost use Rattle.rs_types.specs.declared.written.Elision.TheVariants.{Refused};
 ghost use Rattle.type_check.specs.DeclaredTypes.{struct_kind, variant_kind, type_or_unit, field_name, field_decl, fields_from, parts_from, struct_fields, variant_fields, variants_of, regions_from, own_type, item_scope, declared_type, takes, types_from, first_number, heads, declared_types, numbered, lifetimes_of, parameters_of};
 
 use crate::heads::{decl_of, lifetimes_of, parameters_of, prelude, put_some};
-use logic_term::{AdtDecl, AdtId, CompoundTy, FieldDecl, Region, Ty, TyNode, VariantDecl, VariantKind};
+use logic_term::{
+    AdtDecl, AdtId, CompoundTy, FieldDecl, Region, Ty, TyNode, VariantDecl, VariantKind,
+};
 use rs_types::{AdtTable, Elision, TypeScope, meant};
 use source_trees::{
     Enum, Field, Fields, GenericParam, Item, ItemNode, Segment, Struct, TypeNode, TypeTree,
