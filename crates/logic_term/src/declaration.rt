@@ -10,10 +10,22 @@ pub struct FieldDecl {
     pub span: Span,
 }
 
+/// How the fields of a variant are written (Rust Reference, "Structs", "Enumerations").
+#[derive(Clone, Copy)]
+pub enum VariantKind {
+    /// `A { .. }`
+    Named,
+    /// `A(..)`
+    Numbered,
+    /// `A`
+    Unit,
+}
+
 /// A variant of a declared type.
 #[derive(Drop)]
 pub struct VariantDecl {
     pub name: Name,
+    pub kind: VariantKind,
     /// In source order.
     pub fields: Items<FieldDecl>,
 }

@@ -17,7 +17,7 @@ mod ty;
 
 pub use canonical::is_one_of;
 pub use context::{Context, Entry};
-pub use declaration::{AdtDecl, FieldDecl, VariantDecl};
+pub use declaration::{AdtDecl, FieldDecl, VariantDecl, VariantKind};
 pub use goal::Goal;
 pub use kinds::{
     AdtId, Ctor, FnKind, Label, Label2, LogicFn, Quantifier, Region, TermBinary, TermUnary,

@@ -2,6 +2,7 @@ use crate::written::{X, term};
 use goal_text::{Spelling, goal_text};
 use logic_term::{
     AdtDecl, AdtId, CompoundTy, Ctor, FieldDecl, Region, Term, Ty, TyNode, TyUnary, VariantDecl,
+    VariantKind,
 };
 use source_kinds::IntKind;
 use std::alloc::Global;
@@ -184,7 +185,11 @@ fn variant(alloc: Global, name: Name, fields: &[Name]) -> Result<VariantDecl, No
         of_truths.push(field(*name))?;
     }
     let fields = Items::from_vec(of_truths);
-    Ok(VariantDecl { name, fields })
+    Ok(VariantDecl {
+        name,
+        kind: VariantKind::Numbered,
+        fields,
+    })
 }
 
 /// A declared type with these variants.

@@ -138,6 +138,25 @@ const NOT_BUILT: [Row; 57] = [
     (b"#[requires(x == *y)] fn f() {}", Code::E20, 16, 17),
 ];
 
+/// All forms are built, and have types; what only these tell from what runs is refused behind them.
+const NOT_RUN: [Row; 5] = [
+    (b"struct A; fn f() { A; }", Code::E20, 19, 20),
+    (b"struct A; fn f() { let a = A; }", Code::E20, 27, 28),
+    (
+        b"struct T(i32); fn f(x: i32) { x; T(x + 1); }",
+        Code::E20,
+        33,
+        41,
+    ),
+    (
+        b"fn f() { g(1) } fn g(x: i32) { while x < 1 { T(2); } } struct T(i32);",
+        Code::E20,
+        45,
+        49,
+    ),
+    (b"struct A; fn f() { A; z; }", Code::E05, 22, 23),
+];
+
 /// All forms are built.
 const BUILT: [(&'static [u8], usize); 4] = [
     (
@@ -174,6 +193,11 @@ fn texts_outside_the_grammar_are_refused(rt: HostRuntime) {
 #[test]
 fn forms_that_are_not_built_are_refused_at_their_first_token(rt: HostRuntime) {
     expect_refused(&rt, rt.alloc(), &NOT_BUILT);
+}
+
+#[test]
+fn what_does_not_run_is_refused_behind_types(rt: HostRuntime) {
+    expect_refused(&rt, rt.alloc(), &NOT_RUN);
 }
 
 #[test]

@@ -523,7 +523,7 @@ const FORMS_THAT_HAVE_NO_TYPE_YET: [Row; 12] = [
         b"fn f(x: i32) { if let y = x {} }",
         Some((Code::E20, 15, 30)),
     ),
-    (b"fn f() { a::b(); }", Some((Code::E20, 9, 15))),
+    (b"fn f() { a::b::c(); }", Some((Code::E20, 9, 18))),
     (b"#[variant(true)] fn f() {}", Some((Code::E20, 0, 16))),
     (
         b"fn f() { #[requires(true)] while true {} }",

@@ -1,6 +1,6 @@
 use logic_term::{
     AdtDecl, AdtId, BindingKind, CompoundTy, Ctor, FieldDecl, PatNode, Region, Ty, TyNode, TyUnary,
-    TypedPat, VariantDecl,
+    TypedPat, VariantDecl, VariantKind,
 };
 use source_kinds::IntKind;
 use std::alloc::Global;
@@ -34,6 +34,7 @@ fn variant(alloc: Global, types: Vec<Ty>) -> Result<VariantDecl, NoMemory> {
     }
     Ok(VariantDecl {
         name: Name(0),
+        kind: VariantKind::Numbered,
         fields,
     })
 }

@@ -26,6 +26,7 @@ fn copy_variants(alloc: Global, variants: &[VariantDecl]) -> Result<Items<Varian
     for variant in variants {
         all.push(VariantDecl {
             name: variant.name,
+            kind: variant.kind,
             fields: copy_fields(alloc, variant.fields.as_slice())?,
         })?;
     }

@@ -17,7 +17,7 @@ each_smaller ts i t e l = falls.each_smaller ts i t e l
 pub with_lifetimes : (ds : List AdtDecl) (d : AdtId) (r : Region) (rs : List Region) (ts : Tys) → is_built ds (adt d (r ∷ rs) ts) ≡ false
 with_lifetimes ds d r rs ts = refl
 
-both : (a b : Bool) → (a && b) ≡ true → (a ≡ true) × (b ≡ true)
+pub both : (a b : Bool) → (a && b) ≡ true → (a ≡ true) × (b ≡ true)
 both true b p = (refl, p)
 both false b p = absurd (cc)
 

@@ -3,6 +3,7 @@ use Rattle.std.proofs.Common.{◌≡◌, refl, sym, subst, List, [], Option, Som
 use Rattle.text_core.specs.declared.refusal.SourceError.{SourceError}
 use Rattle.text_core.specs.declared.span.Span.{Span}
 use Rattle.logic_term.specs.declared.declaration.FieldDecl.{FieldDecl}
+use Rattle.logic_term.specs.declared.declaration.VariantKind.TheVariants.{Named}
 use Rattle.logic_term.specs.Ty.{Ty, bool}
 use Rattle.source_trees.specs.declared.operator.UnaryOp.TheVariants.{Neg, Not}
 use Rattle.source_trees.specs.Expr as E
@@ -12,13 +13,14 @@ use Rattle.type_check.specs.declared.operands.Order.{Order}
 use Rattle.type_check.specs.declared.operands.Order.TheVariants as order
 use Rattle.type_check.specs.declared.scope.Variable.{Variable}
 use Rattle.type_check.specs.Answers.{◌>>=◌, gather}
+use Rattle.type_check.specs.Constructors.{Maker, maker_of}
 use Rattle.type_check.specs.Setting.{Setting, looping, outside}
 use Rattle.type_check.specs.TypedExpr.{TypedExpr, TypedExprs}
 use Rattle.type_check.specs.TypedExpr as tree
 use Rattle.type_check.specs.TypedExprView.{ty_of}
-use Rattle.type_check.specs.Typing.{Typed, is_bare, order_of, operands_of, operands, callee_of, first_of, rest_of, Opened, opened, declared, behind, typed_stmt, given, invariant_of, parts_of, Maker, maker_of, next_field, fields_behind, no_field_left, typed, typed_stmts, typed_args, typed_fields}
+use Rattle.type_check.specs.Typing.{Typed, is_bare, order_of, operands_of, operands, callee_of, params_of, first_of, rest_of, Opened, opened, declared, behind, typed_stmt, given, invariant_of, parts_of, next_field, fields_behind, no_field_left, typed, typed_stmts, typed_args, typed_fields}
 use Rattle.type_check.specs.WellTyped.{unit, is_arithmetic}
-use Rattle.type_check.specs.Written.{as_name, name_alone, step_of}
+use Rattle.type_check.specs.Written.{step_of}
 use Rattle.type_check.specs.Rules.{Asks, comes, part, first, operands_in, each_arg, each_field, each_stmt, rule, Types, by_rule, Comes, itself, refused, then, TypedByRules, TypingIsOne}
 
 -- ---- one outcome
@@ -89,11 +91,11 @@ mutual
       (at_part σ Γ l None (typed σ Γ l None) _ _ (types σ Γ l None) (λ a. at_part σ Γ e (Some (ty_of a)) (typed σ Γ e (Some (ty_of a))) _ _ (types σ Γ e (Some (ty_of a))) (λ b. itself)))
   types σ Γ (E.update s op o l e) t = by_rule
       (at_part σ Γ l None (typed σ Γ l None) _ _ (types σ Γ l None) (λ a. at_part σ Γ e (Some (ty_of a)) (typed σ Γ e (Some (ty_of a))) _ _ (types σ Γ e (Some (ty_of a))) (λ b. itself)))
-  types σ Γ (E.call s f es) t = by_rule (at_first (callee_of σ.headings Γ s (as_name f)) _ _ (λ g. at_args σ Γ es g.signature.params _ _ (λ as'. itself)))
+  types σ Γ (E.call s f es) t = by_rule (at_first (callee_of σ Γ t s f) _ _ (λ g. at_args σ Γ es (params_of g) _ _ (λ as'. itself)))
   types σ Γ (E.tuple s es) t = by_rule (at_args σ Γ es (parts_of t) _ _ (λ as'. itself))
   types σ Γ (E.part s e k) t = by_rule (at_part σ Γ e None (typed σ Γ e None) _ _ (types σ Γ e None) (λ a. itself))
   types σ Γ (E.field s e x []) t = by_rule (at_part σ Γ e None (typed σ Γ e None) _ _ (types σ Γ e None) (λ a. itself))
-  types σ Γ (E.literal s p fs) t = by_rule (at_first (maker_of σ.types t s (name_alone p.node)) _ _ (λ m. at_fields σ Γ s m m.fields fs _ _ (λ as'. itself)))
+  types σ Γ (E.literal s p fs) t = by_rule (at_first (maker_of σ.types Named t s p.node) _ _ (λ m. at_fields σ Γ s m m.fields fs _ _ (λ as'. itself)))
   types σ Γ (E.block s ss) t = by_rule (at_stmts σ Γ ss _ _ (λ o. itself))
   types σ Γ (E.block_with s ss e) t = by_rule (at_stmts σ Γ ss _ _ (λ o. at_part σ o.scope e t (typed σ o.scope e t) _ _ (types σ o.scope e t) (λ a. itself)))
   types σ Γ (E.branch s None c a) t = by_rule

@@ -1,5 +1,5 @@
 -- What typing gives fits: each part has the type that its place asks for.
-use Rattle.std.proofs.Common.{◌≡◌, ◌∙◌, inl, inr, ℕ, zero, suc, ◌==◌, Bool, true, false, List, [], ◌∷◌, ◌++◌, length, Option, Some, None, Ok, Err, map, refl, ap, ap₂, sym, subst, arith}
+use Rattle.std.proofs.Common.{◌≡◌, ◌∙◌, inl, inr, ℕ, zero, suc, ◌==◌, Bool, true, false, List, [], ◌∷◌, ◌++◌, length, Option, Some, None, Result, Ok, Err, map, refl, ap, ap₂, sym, subst, arith}
 use Rattle.std.specs.Prelude.{ℤ, slice_get, if◌then◌else◌}
 use Rattle.logic_term.proofs.FreeLaw.{same_test}
 use Rattle.text_core.specs.declared.name.Name.{Name}
@@ -9,14 +9,12 @@ use Rattle.source_kinds.specs.declared.kinds.IntKind.{IntKind}
 use Rattle.source_kinds.specs.Range.{fits}
 use Rattle.logic_term.specs.declared.declaration.AdtDecl.{AdtDecl}
 use Rattle.logic_term.specs.declared.declaration.FieldDecl.{FieldDecl}
-use Rattle.logic_term.specs.declared.declaration.VariantDecl.{VariantDecl}
-use Rattle.logic_term.specs.declared.kinds.AdtId.{AdtId}
+use Rattle.logic_term.specs.declared.declaration.VariantKind.TheVariants.{Named, Numbered, Unit as Alone}
 use Rattle.logic_term.specs.declared.kinds.Ctor.TheVariants.{Tuple, Variant}
 use Rattle.logic_term.specs.Sort.{instances}
-use Rattle.logic_term.specs.Theory.{declared as decls, field_ty, fields_of, variant_of}
+use Rattle.logic_term.specs.Theory.{field_ty}
 use Rattle.logic_term.specs.Ty.{Ty, Tys, int, bool, tuple, adt, no_tys, and_ty}
 use Rattle.logic_term.specs.TyView.{tys_of}
-use Rattle.rs_types.specs.Table.{number_of}
 use Rattle.source_trees.specs.declared.attribute.Attribute.{Attribute}
 use Rattle.source_trees.specs.declared.attribute.AttributeNode.{AttributeNode}
 use Rattle.source_trees.specs.declared.attribute.AttributeNode.TheVariants as A
@@ -24,6 +22,7 @@ use Rattle.source_trees.specs.declared.attribute.ClauseKind.TheVariants.{Invaria
 use Rattle.source_trees.specs.declared.operator.PanicMacro.{PanicMacro}
 use Rattle.source_trees.specs.declared.operator.UnaryOp.TheVariants.{Neg, Not}
 use Rattle.source_trees.specs.declared.path.Number.{Number}
+use Rattle.source_trees.specs.declared.path.PathNode.{PathNode}
 use Rattle.source_trees.specs.declared.path.Segment.{Segment}
 use Rattle.source_trees.specs.declared.statement.StmtKind.{StmtKind}
 use Rattle.source_trees.specs.declared.statement.StmtKind.TheVariants as kind
@@ -45,7 +44,8 @@ use Rattle.type_check.specs.declared.statements.Step.{Step}
 use Rattle.type_check.specs.declared.typed.TypedStmt.{TypedStmt}
 use Rattle.text_core.specs.declared.refusal.SourceError.{SourceError}
 use Rattle.type_check.specs.Answers.{mismatch, unbuilt, unknown_name, not_mutable, with_some, gather}
-use Rattle.type_check.specs.Functions.{callee}
+use Rattle.type_check.specs.Constructors.{Maker, maker_of}
+use Rattle.type_check.specs.Functions.{function_from}
 use Rattle.type_check.specs.Leaves.{leaves}
 use Rattle.type_check.specs.Scope.{found}
 use Rattle.type_check.specs.Breaks.{breaks}
@@ -54,18 +54,19 @@ use Rattle.type_check.specs.Terms.{assertion}
 use Rattle.type_check.specs.TypedExpr.{TypedExpr, TypedStmts, TypedExprs}
 use Rattle.type_check.specs.TypedExpr as tree
 use Rattle.type_check.specs.TypedExprView.{ty_of, stmt_of, stmts_of}
-use Rattle.type_check.specs.Types.{same_ty, is_signed_ty, is_built}
-use Rattle.type_check.specs.Typing.{Typed, fit, literal_kind, literal_of, literal, variable_of, variable, named, negated, is_bare, order_without, order_of, operands_of, operands, operation, operated, may_write, if_mutable, writing, assigned}
-use Rattle.type_check.specs.Typing.{is_updated, updated, known, callee_of, how_many, first_of, rest_of, called, block_ty, declared, Opened, opened, typed_stmt, behind, without_last, closed, asked, given, choice_ty, cause_of, panicked, nothing, returned, bare_return, endless, in_a_loop, invariant_by, invariant_of, listed, parts_of, tupled, is_boxed, part_number, part_if, field_of, part_by, parted, selected, typed, typed_stmts, typed_args, typed_fields}
-use Rattle.type_check.specs.Typing.{Maker, arguments_for, maker_by, maker_first, maker_if, maker_at, maker_of, not_next, built_field, next_field, fields_behind, no_field_left, literal_made}
+use Rattle.type_check.specs.Types.{same_ty, is_signed_ty, is_built, are_built}
+use Rattle.type_check.specs.Typing.{Typed, fit, literal_kind, literal_of, literal, negated, is_bare, order_without, order_of, operands_of, operands, operation, operated, may_write, if_mutable, writing, assigned}
+use Rattle.type_check.specs.Typing.{is_updated, updated, local_of, made_alone, named_by, named, Called, of_function, of_maker, field_tys, maker_called, constructor_called, or_constructor, unless_local, called_by, callee_of, params_of, how_many, first_of, rest_of, call_of, called, block_ty, declared, Opened, opened, typed_stmt, behind, without_last, closed, asked, given, choice_ty, cause_of, panicked, nothing, returned, bare_return, endless, in_a_loop, invariant_by, invariant_of, listed, parts_of, tupled, is_boxed, part_number, part_if, field_of, part_by, parted, selected, typed, typed_stmts, typed_args, typed_fields}
+use Rattle.type_check.specs.Typing.{not_next, built_field, next_field, fields_behind, no_field_left, literal_made}
 use Rattle.type_check.specs.WellTyped.{unit, Surroundings, IsBuilt, PartsAreBuilt, AllBuilt, field_at, part_ty, tys_of_exprs, PartsFit, is_arithmetic, is_equality, operation_ty, is_signed, IsOf, IsOfOrLeaves, SpeaksOf, EachSpeaks, IsWellTyped, StatementsFit, ArgumentsFit}
-use Rattle.type_check.specs.Written.{as_name, name_alone, written_type, written_or_none, declared_by, step_of}
+use Rattle.type_check.specs.Written.{name_alone, written_type, written_or_none, declared_by, step_of}
 use Rattle.type_check.proofs.Bound.{bound, held, yes, same_ok}
+use Rattle.type_check.proofs.Constructors.{IsMaker, maker_sound}
 use Rattle.type_check.proofs.Lookups.{types, signatures_at, surroundings, found_type, callee_signature}
 use Rattle.logic_elab.proofs.SameSorts.{equal_types}
 use Rattle.type_check.proofs.Speaking.{assertion_speaks}
 use Rattle.type_check.proofs.StatementLists.{block_ty_after, stmt_ty}
-use Rattle.type_check.proofs.BuiltTypes.{built_is_built}
+use Rattle.type_check.proofs.BuiltTypes.{both, built_is_built}
 use Rattle.type_check.proofs.FoundParts.{field_has_type, number_has_type}
 use Rattle.type_check.proofs.WrittenTypes.{type_built}
 
@@ -117,18 +118,6 @@ literal_at σ Γ t s z (Some k) r p =
 literal_sound : (σ : Setting) (Γ : List Variable) (t : Option Ty) (s : Span) (z : ℤ) (k : Option IntKind) (r : TypedExpr) → literal t s z k ≡ Ok r → Sound σ Γ t r
 unfolding literal
 literal_sound σ Γ t s z k r p = literal_at σ Γ t s z (literal_kind k t) r p
-
-variable_at : (σ : Setting) (Γ : List Variable) (t : Option Ty) (s : Span) (o : Option Found) (r : TypedExpr) → AllBuilt (types Γ) → ((w : Found) → o ≡ Some w → slice_get (types Γ) w.place ≡ Some w.ty) → variable_of t s o ≡ Ok r → Sound σ Γ t r
-variable_at σ Γ t s None r b h p = absurd (cc)
-variable_at σ Γ t s (Some v) r b h p = fit_sound σ Γ t s (tree.variable v.ty s v.place) r (h v refl) (built_at (types Γ) v.place v.ty b (h v refl)) p
-
-variable_sound : (σ : Setting) (Γ : List Variable) (t : Option Ty) (s : Span) (x : Name) (r : TypedExpr) → AllBuilt (types Γ) → variable Γ t s x ≡ Ok r → Sound σ Γ t r
-unfolding variable
-variable_sound σ Γ t s x r b p = variable_at σ Γ t s (found x Γ) r b (found_type Γ x) p
-
-named_sound : (σ : Setting) (Γ : List Variable) (t : Option Ty) (s : Span) (o : Option Segment) (r : TypedExpr) → AllBuilt (types Γ) → named Γ t s o ≡ Ok r → Sound σ Γ t r
-named_sound σ Γ t s None r b p = absurd (cc)
-named_sound σ Γ t s (Some x) r b p = variable_sound σ Γ t s x.name r b p
 
 -- ---- operators
 
@@ -194,25 +183,11 @@ updated_sound σ Γ t s o l op a e r h w q p =
 
 -- ---- calls
 
-known_callee : (s : Span) (o : Option Callee) (f : Callee) → known s o ≡ Ok f → o ≡ Some f
-known_callee s None f p = absurd (cc)
-known_callee s (Some g) f p = ap Some (same_ok _ _ p)
-
-called_callee : (σ : List Heading) (Γ : List Variable) (s : Span) (o : Option Segment) (f : Callee) → callee_of σ Γ s o ≡ Ok f → slice_get (signatures_at σ) f.place ≡ Some f.signature
-called_callee σ Γ s None f p = absurd (cc)
-called_callee σ Γ s (Some x) f p = callee_signature σ Γ x.name f (known_callee x.span (callee σ Γ x.name) f p)
-
 abbrev pub AllSound : Setting → List Variable → TypedExprs → List Ty → Type 0
 AllSound σ Γ es ts = how_many es ≡ length ts → ArgumentsFit (surroundings σ) (types Γ) es ts
 
 same_number : (m n : ℕ) → (m == n) ≡ true → m ≡ n
 same_number m n p = same_test m n p
-
-called_sound : (σ : Setting) (Γ : List Variable) (t : Option Ty) (s : Span) (f : Callee) (es : TypedExprs) (r : TypedExpr) → slice_get (signatures_at σ.headings) f.place ≡ Some f.signature → IsBuilt f.signature.answer → AllSound σ Γ es f.signature.params → called t s f es ≡ Ok r → Sound σ Γ t r
-unfolding called
-called_sound σ Γ t s f es r g b h p =
-    let c = held (how_many es == length f.signature.params) (fit t s (tree.call f.signature.answer s f.place es)) (mismatch s) r p in
-    fit_sound σ Γ t s (tree.call f.signature.answer s f.place es) r (f.signature, g, refl, h (same_number (how_many es) (length f.signature.params) c.0)) b c.1
 
 no_args : (σ : Setting) (Γ : List Variable) (ts : List Ty) → AllSound σ Γ tree.none ts
 no_args σ Γ [] = λ h. tt
@@ -264,36 +239,6 @@ selected_sound σ Γ t s x a r w p = part_sound σ Γ t s x.span a (field_of σ.
 
 -- ---- struct literals
 
--- the struct is declared with these fields, and its type is built
-pub record IsMaker (σ : Setting) (m : Maker) : Type 0 where
-  pub built : IsBuilt (adt m.number [] m.arguments)
-  pub declares : decls (record { adts = σ.types }) m.number 0 ≡ Some (tys_of (map field_ty m.fields))
-
-maker_built : (σ : Setting) (s : Span) (d : AdtId) (fs : List FieldDecl) (ts : Option Tys) (m : Maker) → decls (record { adts = σ.types }) d 0 ≡ Some (tys_of (map field_ty fs)) → maker_by σ.types s d fs ts ≡ Ok m → IsMaker σ m
-maker_built σ s d fs None m h p = absurd (cc)
-maker_built σ s d fs (Some ts) m h p =
-    let made : Maker = record { number = d; arguments = ts; fields = fs } in
-    let c = held (is_built σ.types (adt d [] ts)) (Ok made) (unbuilt s) m p in
-    subst (IsMaker σ) (same_ok made m c.1) (record { built = built_is_built σ.types (adt d [] ts) c.0; declares = h })
-
-maker_in_first : (σ : Setting) (t : Option Ty) (s : Span) (x : Segment) (n : ℕ) (d : AdtDecl) (v : Option VariantDecl) (m : Maker) → slice_get σ.types n ≡ Some d → slice_get d.variants 0 ≡ v → maker_first σ.types t s x n d v ≡ Ok m → IsMaker σ m
-maker_in_first σ t s x n d None m h q p = absurd (cc)
-maker_in_first σ t s x n d (Some v) m h q p =
-    maker_built σ s (record { 0 = n }) v.fields (arguments_for d.params n t) m (ap (λ o. fields_of (variant_of o 0)) h ∙ ap fields_of q) p
-
-maker_in : (σ : Setting) (t : Option Ty) (s : Span) (x : Segment) (n : ℕ) (o : Option AdtDecl) (m : Maker) → slice_get σ.types n ≡ o → maker_if σ.types t s x n o ≡ Ok m → IsMaker σ m
-maker_in σ t s x n None m h p = absurd (cc)
-maker_in σ t s x n (Some d) m h p =
-    maker_in_first σ t s x n d (slice_get d.variants 0) m h refl (held d.is_struct (maker_first σ.types t s x n d (slice_get d.variants 0)) (unknown_name x.span) m p).1
-
-maker_named : (σ : Setting) (t : Option Ty) (s : Span) (x : Segment) (n : Option ℕ) (m : Maker) → maker_at σ.types t s x n ≡ Ok m → IsMaker σ m
-maker_named σ t s x None m p = absurd (cc)
-maker_named σ t s x (Some n) m p = maker_in σ t s x n (slice_get σ.types n) m refl p
-
-maker_sound : (σ : Setting) (t : Option Ty) (s : Span) (o : Option Segment) (m : Maker) → maker_of σ.types t s o ≡ Ok m → IsMaker σ m
-maker_sound σ t s None m p = absurd (cc)
-maker_sound σ t s (Some x) m p = maker_named σ t s x (number_of x.name.0 σ.types) m p
-
 -- the next field has the type
 pub record IsNext (m : Maker) (left : List FieldDecl) (u : Ty) : Type 0 where
   pub field : FieldDecl
@@ -328,8 +273,88 @@ one_field σ Γ m left u a es n w q rest = record {
 literal_sound_of : (σ : Setting) (Γ : List Variable) (t : Option Ty) (s : Span) (m : Maker) (es : TypedExprs) (r : TypedExpr) → IsMaker σ m → FieldsSound σ Γ m m.fields es → literal_made t s m es ≡ Ok r → Sound σ Γ t r
 unfolding literal_made
 literal_sound_of σ Γ t s m es r h k p =
-    fit_sound σ Γ t s (tree.make (adt m.number [] m.arguments) s (Variant m.number 0) es) r
+    fit_sound σ Γ t s (tree.make (adt m.number [] m.arguments) s (Variant m.number m.variant) es) r
     (record { arguments = m.arguments; fields = tys_of (map field_ty m.fields); is = refl; declares = h.declares; parts = k.types_are }, k.fit) h.built p
+
+-- ---- names
+
+alone_sound : (σ : Setting) (Γ : List Variable) (t : Option Ty) (s : Span) (m : Maker) (r : TypedExpr) → IsMaker σ m → made_alone t s m ≡ Ok r → Sound σ Γ t r
+alone_sound σ Γ t s m r h p =
+    let es = bound (no_field_left s m.fields) (literal_made t s m) r p in
+    literal_sound_of σ Γ t s m es.0 r h (none_left σ Γ s m m.fields es.0 es.1) es.2
+
+local_type : (Γ : List Variable) (x : Option Segment) (w : Found) → local_of Γ x ≡ Some w → slice_get (types Γ) w.place ≡ Some w.ty
+local_type Γ None w p = absurd (cc)
+local_type Γ (Some x) w p = found_type Γ x.name w p
+
+named_at : (σ : Setting) (Γ : List Variable) (t : Option Ty) (s : Span) (w : PathNode) (o : Option Found) (r : TypedExpr) → AllBuilt (types Γ) → ((v : Found) → o ≡ Some v → slice_get (types Γ) v.place ≡ Some v.ty) → named_by σ.types t s w o ≡ Ok r → Sound σ Γ t r
+named_at σ Γ t s w (Some v) r b h p = fit_sound σ Γ t s (tree.variable v.ty s v.place) r (h v refl) (built_at (types Γ) v.place v.ty b (h v refl)) p
+named_at σ Γ t s w None r b h p =
+    let m = bound (maker_of σ.types Alone t s w) (made_alone t s) r p in
+    alone_sound σ Γ t s m.0 r (maker_sound σ Alone t s w m.0 m.1) m.2
+
+named_sound : (σ : Setting) (Γ : List Variable) (t : Option Ty) (s : Span) (w : PathNode) (r : TypedExpr) → AllBuilt (types Γ) → named σ.types Γ t s w ≡ Ok r → Sound σ Γ t r
+unfolding named
+named_sound σ Γ t s w r b p = named_at σ Γ t s w (local_of Γ (name_alone w)) r b (local_type Γ (name_alone w)) p
+
+-- ---- what is called
+
+-- a function of its signature, or what makes a value of parts of built types
+abbrev pub IsCalled : Setting → Called → Type 0
+IsCalled σ (of_function f) = slice_get (signatures_at σ.headings) f.place ≡ Some f.signature
+IsCalled σ (of_maker m) = IsMaker σ m × AllBuilt (field_tys m)
+
+listed_built : (ds : List AdtDecl) (ts : List Ty) → are_built ds (tys_of ts) ≡ true → AllBuilt ts
+listed_built ds [] p = tt
+listed_built ds (t ∷ ts) p = let b = both (is_built ds t) (are_built ds (tys_of ts)) p in (built_is_built ds t b.0, listed_built ds ts b.1)
+
+maker_is_called : (σ : Setting) (k : Option Ty) (s : Span) (w : PathNode) (c : Called) → constructor_called σ.types k s w ≡ Ok c → IsCalled σ c
+maker_is_called σ t s w c p =
+    let m = bound (maker_of σ.types Numbered t s w) (maker_called σ.types s) c p in
+    let b = held (are_built σ.types (tys_of (field_tys m.0))) (Ok (of_maker m.0)) (unbuilt s) c m.2 in
+    subst (IsCalled σ) (same_ok (of_maker m.0) c b.1) (maker_sound σ Numbered t s w m.0 m.1, listed_built σ.types (field_tys m.0) b.0)
+
+either_is_called : (σ : Setting) (t : Option Ty) (s : Span) (w : PathNode) (x : Name) (o : Option Callee) (c : Called) → function_from 0 x σ.headings ≡ o → or_constructor σ.types t s w o ≡ Ok c → IsCalled σ c
+either_is_called σ t s w x (Some f) c h p = subst (IsCalled σ) (same_ok (of_function f) c p) (callee_signature σ.headings x f h)
+either_is_called σ t s w x None c h p = maker_is_called σ t s w c p
+
+outside_is_called : (σ : Setting) (s : Span) (o : Option Found) (q : Result Called SourceError) (c : Called) → (q ≡ Ok c → IsCalled σ c) → unless_local s o q ≡ Ok c → IsCalled σ c
+outside_is_called σ s None q c h p = h p
+outside_is_called σ s (Some v) q c h p = absurd (cc)
+
+path_is_called : (σ : Setting) (Γ : List Variable) (t : Option Ty) (s : Span) (w : PathNode) (x : Option Segment) (c : Called) → called_by σ Γ t s w x ≡ Ok c → IsCalled σ c
+path_is_called σ Γ t s w None c p = maker_is_called σ t s w c p
+path_is_called σ Γ t s w (Some x) c p =
+    outside_is_called σ x.span (found x.name Γ) (or_constructor σ.types t s w (function_from 0 x.name σ.headings)) c (either_is_called σ t s w x.name (function_from 0 x.name σ.headings) c refl) p
+
+is_called : (σ : Setting) (Γ : List Variable) (t : Option Ty) (s : Span) (f : Expr) (c : Called) → callee_of σ Γ t s f ≡ Ok c → IsCalled σ c
+unfolding callee_of
+is_called σ Γ t s (E.path r w) c p = path_is_called σ Γ t s w.node (name_alone w.node) c p
+is_called σ Γ t s f c p = absurd (cc)
+
+params_built : (σ : Setting) (Γ : List Variable) (c : Called) → Around σ Γ → IsCalled σ c → AllBuilt (params_of c)
+params_built σ Γ (of_function f) ho h = (ho.functions f.place f.signature h).0
+params_built σ Γ (of_maker m) ho h = h.1
+
+-- arguments of the types of the fields
+fields_fit : (σ : Setting) (Γ : List Variable) (m : Maker) (fs : List FieldDecl) (es : TypedExprs) → ArgumentsFit (surroundings σ) (types Γ) es (map (field_at m.arguments) fs) → FieldsSound σ Γ m fs es
+fields_fit σ Γ m [] tree.none h = record { fit = tt; types_are = refl }
+fields_fit σ Γ m [] (tree.more e es) h = absurd h
+fields_fit σ Γ m (f ∷ fs) tree.none h = absurd h
+fields_fit σ Γ m (f ∷ fs) (tree.more e es) h =
+    let rest = fields_fit σ Γ m fs es h.2 in
+    record { fit = (h.1, rest.fit); types_are = ap₂ and_ty h.0 rest.types_are }
+
+call_sound : (σ : Setting) (Γ : List Variable) (t : Option Ty) (s : Span) (c : Called) (es : TypedExprs) (r : TypedExpr) → Around σ Γ → IsCalled σ c → ArgumentsFit (surroundings σ) (types Γ) es (params_of c) → call_of t s c es ≡ Ok r → Sound σ Γ t r
+call_sound σ Γ t s (of_function f) es r ho g h p =
+    fit_sound σ Γ t s (tree.call f.signature.answer s f.place es) r (f.signature, g, refl, h) (ho.functions f.place f.signature g).1 p
+call_sound σ Γ t s (of_maker m) es r ho g h p = literal_sound_of σ Γ t s m es r g.0 (fields_fit σ Γ m m.fields es h) p
+
+called_sound : (σ : Setting) (Γ : List Variable) (t : Option Ty) (s : Span) (c : Called) (es : TypedExprs) (r : TypedExpr) → Around σ Γ → IsCalled σ c → AllSound σ Γ es (params_of c) → called t s c es ≡ Ok r → Sound σ Γ t r
+unfolding called
+called_sound σ Γ t s c es r ho g h p =
+    let d = held (how_many es == length (params_of c)) (call_of t s c es) (mismatch s) r p in
+    call_sound σ Γ t s c es r ho g (h (same_number (how_many es) (length (params_of c)) d.0)) d.1
 
 -- ---- blocks and loops
 
@@ -571,7 +596,7 @@ mutual
   pub typed_sound : (σ : Setting) (Γ : List Variable) (e : Expr) (t : Option Ty) (r : TypedExpr) → Around σ Γ → MayAsk t → typed σ Γ e t ≡ Ok r → Sound σ Γ t r
   typed_sound σ Γ (E.integer s z k) t r ho ht p = literal_sound σ Γ t s z k r p
   typed_sound σ Γ (E.truth s b) t r ho ht p = fit_sound σ Γ t s (tree.truth bool s b) r refl tt p
-  typed_sound σ Γ (E.path s w) t r ho ht p = named_sound σ Γ t s (name_alone w.node) r ho.variables p
+  typed_sound σ Γ (E.path s w) t r ho ht p = named_sound σ Γ t s w.node r ho.variables p
   typed_sound σ Γ (E.unary s Neg o e) t r ho ht p =
       let a = bound (typed σ Γ e t) _ r p in
       negated_sound σ Γ t s o (span_of e) a.0 r (typed_sound σ Γ e t a.0 ho ht a.1).well a.2
@@ -604,11 +629,10 @@ mutual
       let sb = typed_sound σ Γ e (Some (ty_of a.0)) b.0 ho sa.built b.1 in
       updated_sound σ Γ t s o (span_of l) op a.0 b.0 r sa.well sb.well sb.meets b.2
   typed_sound σ Γ (E.call s f es) t r ho ht p =
-      let g = bound (callee_of σ.headings Γ s (as_name f)) _ r p in
-      let as' = bound (typed_args σ Γ es g.0.signature.params) _ r g.2 in
-      let is = called_callee σ.headings Γ s (as_name f) g.0 g.1 in
-      let b = ho.functions g.0.place g.0.signature is in
-      called_sound σ Γ t s g.0 as'.0 r is b.1 (args_sound σ Γ es g.0.signature.params as'.0 ho b.0 as'.1) as'.2
+      let g = bound (callee_of σ Γ t s f) _ r p in
+      let as' = bound (typed_args σ Γ es (params_of g.0)) _ r g.2 in
+      let is = is_called σ Γ t s f g.0 g.1 in
+      called_sound σ Γ t s g.0 as'.0 r ho is (args_sound σ Γ es (params_of g.0) as'.0 ho (params_built σ Γ g.0 ho is) as'.1) as'.2
   typed_sound σ Γ (E.tuple s es) t r ho ht p =
       let as' = bound (typed_args σ Γ es (parts_of t)) _ r p in
       tupled_sound σ Γ t s as'.0 r (parts_sound σ Γ es (parts_of t) as'.0 ho (expected_built t ht) as'.1) as'.2
@@ -621,9 +645,9 @@ mutual
       let sa = typed_sound σ Γ e None a.0 ho tt a.1 in
       selected_sound σ Γ t s x a.0 r sa.well a.2
   typed_sound σ Γ (E.literal s w fs) t r ho ht p =
-      let m = bound (maker_of σ.types t s (name_alone w.node)) _ r p in
+      let m = bound (maker_of σ.types Named t s w.node) _ r p in
       let as' = bound (typed_fields σ Γ s m.0 m.0.fields fs) _ r m.2 in
-      literal_sound_of σ Γ t s m.0 as'.0 r (maker_sound σ t s (name_alone w.node) m.0 m.1) (fields_sound σ Γ s m.0 m.0.fields fs as'.0 ho as'.1) as'.2
+      literal_sound_of σ Γ t s m.0 as'.0 r (maker_sound σ Named t s w.node m.0 m.1) (fields_sound σ Γ s m.0 m.0.fields fs as'.0 ho as'.1) as'.2
   typed_sound σ Γ (E.block s ss) t r ho ht p =
       let o = bound (typed_stmts σ Γ ss) _ r p in
       closed_sound σ Γ t s (without_last o.0.stmts) r (without_last_fits (surroundings σ) (types Γ) t o.0.stmts ht ((stmts_sound σ Γ ss o.0 ho o.1).0 unit tree.done refl)) (without_last_built t o.0.stmts ht) o.2

@@ -15,8 +15,9 @@ use Rattle.logic_term.specs.declared.ty.CompoundTy.TheVariants as compound
 use Rattle.logic_term.specs.TyView.{compound_of, made_by}
 use Rattle.source_trees.specs.declared.path.Segment.{Segment}
 use Rattle.type_check.specs.Answers.{unknown_name}
+use Rattle.type_check.specs.Constructors.{arguments_from}
 use Rattle.type_check.specs.DeclaredTypes.{numbered}
-use Rattle.type_check.specs.Typing.{arguments_for, arguments_from, maker_by, maker_first, maker_if, field_from, field_of, part_of, part_if, with_number}
+use Rattle.type_check.specs.Typing.{field_from, field_of, part_of, part_if, with_number}
 use Rattle.type_check.specs.WellTyped.{field_at, nth_part, part_ty, struct_fields}
 
 pub unary_field : (ds : List AdtDecl) (x : Name) (op : TyUnary) (t : Ty) → field_of ds x (made_by op t) ≡ None
@@ -91,17 +92,3 @@ part_has_type ds t n p h = absurd (cc)
 pub number_has_type : (ds : List AdtDecl) (t : Ty) (n : Option ℕ) (p : ℕ × Ty) → part_if ds t n ≡ Some p → part_ty ds t p.0 ≡ Some p.1
 number_has_type ds t None p h = absurd (cc)
 number_has_type ds t (Some n) p h = part_has_type ds t n p h
-
--- ---- what a literal makes
-
-pub first_got : (vs : List VariantDecl) (v : VariantDecl) → 0 < length vs → v ≡ get_or vs 0 v → slice_get vs 0 ≡ Some v
-first_got [] v h e = absurd (omega arith)
-first_got (w ∷ vs) v h e = ap Some (sym e)
-
--- a struct that has a variant is made of its fields
-pub made_in_first : (ds : List AdtDecl) (t : Option Ty) (s : Span) (x : Segment) (n : ℕ) (d : AdtDecl) (v : VariantDecl) (ts : Option Tys) → d.is_struct ≡ true → slice_get d.variants 0 ≡ Some v → ts ≡ arguments_for d.params n t
-    → maker_if ds t s x n (Some d) ≡ maker_by ds s (record { 0 = n }) v.fields ts
-made_in_first ds t s x n d v ts is first arguments =
-    ap (λ b. if b then maker_first ds t s x n d (slice_get d.variants 0) else Err (unknown_name x.span)) is
-    ∙ ap (maker_first ds t s x n d) first
-    ∙ ap (maker_by ds s (record { 0 = n }) v.fields) (sym arguments)

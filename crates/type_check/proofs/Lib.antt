@@ -6,6 +6,8 @@ pub mod BreakParts
 pub mod ByRules
 pub mod BuiltTypes
 pub mod Chains
+pub mod Constructing
+pub mod Constructors
 pub mod Declaration
 pub mod Dropped
 pub mod FieldParts

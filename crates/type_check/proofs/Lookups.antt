@@ -13,7 +13,7 @@ use Rattle.type_check.specs.declared.program.Signature.{Signature}
 use Rattle.type_check.specs.declared.scope.Found.{Found}
 use Rattle.type_check.specs.declared.scope.Variable.{Variable}
 use Rattle.type_check.specs.Checked.{type_of}
-use Rattle.type_check.specs.Functions.{callee, callee_at, function_from, unless_variable}
+use Rattle.type_check.specs.Functions.{callee_at, function_from}
 use Rattle.type_check.specs.Scope.{at_place, found, found_from}
 use Rattle.type_check.specs.Setting.{Setting}
 use Rattle.type_check.specs.WellTyped.{Surroundings}
@@ -78,16 +78,11 @@ function_holds P k x (h ∷ σ) each w p =
     (function_holds P (k + 1) x σ (λ j g q. let e : k + suc j ≡ k + 1 + j = omega arith in subst (λ n. P (callee_at n g)) e (each (suc j) g q)))
     w p
 
-no_variable : (v : Option Found) (f : Option Callee) (w : Callee) → unless_variable v f ≡ Some w → f ≡ Some w
-no_variable None f w p = p
-no_variable (Some v) f w p = absurd (cc)
-
-pub callee_signature : (σ : List Heading) (Γ : List Variable) (x : Name) (w : Callee) → callee σ Γ x ≡ Some w → slice_get (signatures_at σ) w.place ≡ Some w.signature
-unfolding callee
-callee_signature σ Γ x w p =
+pub callee_signature : (σ : List Heading) (x : Name) (w : Callee) → function_from 0 x σ ≡ Some w → slice_get (signatures_at σ) w.place ≡ Some w.signature
+callee_signature σ x w p =
     function_holds (λ w. slice_get (signatures_at σ) w.place ≡ Some w.signature) 0 x σ
     (λ j h q. let e : j ≡ 0 + j = omega arith in subst (λ n. slice_get (signatures_at σ) n ≡ Some h.signature) e (get_signature σ j h q))
-    w (no_variable (found x Γ) (function_from 0 x σ) w p)
+    w p
 
 -- ---- from the end
 

@@ -1,5 +1,5 @@
 -- Refusals of program code have causes.
-use Rattle.std.proofs.Common.{◌≡◌, ◌⊎◌, inl, inr, ℕ, ◌==◌, Bool, true, false, List, [], ◌∷◌, length, Option, Some, None, Result, Ok, Err, refl, ap, sym}
+use Rattle.std.proofs.Common.{◌≡◌, ◌⊎◌, inl, inr, ℕ, ◌==◌, Bool, true, false, List, [], ◌∷◌, length, Option, Some, None, Result, Ok, Err, refl, ap, sym, ◌∙◌}
 use Rattle.std.specs.Prelude.{ℤ, if◌then◌else◌}
 use Rattle.text_core.specs.declared.name.Name.{Name}
 use Rattle.text_core.specs.declared.refusal.SourceError.{SourceError}
@@ -9,6 +9,7 @@ use Rattle.source_kinds.specs.declared.kinds.IntKind.{IntKind}
 use Rattle.source_kinds.specs.Range.{fits}
 use Rattle.logic_term.specs.declared.declaration.AdtDecl.{AdtDecl}
 use Rattle.logic_term.specs.declared.declaration.FieldDecl.{FieldDecl}
+use Rattle.logic_term.specs.declared.declaration.VariantKind.TheVariants.{Named, Unit as Alone}
 use Rattle.logic_term.specs.declared.kinds.Ctor.TheVariants.{Tuple, Variant}
 use Rattle.logic_term.specs.Ty.{Ty, int, bool, tuple, adt}
 use Rattle.source_trees.specs.declared.attribute.Attribute.{Attribute}
@@ -17,6 +18,7 @@ use Rattle.source_trees.specs.declared.attribute.AttributeNode.TheVariants as A
 use Rattle.source_trees.specs.declared.attribute.ClauseKind.TheVariants.{Invariant}
 use Rattle.source_trees.specs.declared.operator.UnaryOp.TheVariants.{Neg, Not}
 use Rattle.source_trees.specs.declared.path.Number.{Number}
+use Rattle.source_trees.specs.declared.path.PathNode.{PathNode}
 use Rattle.source_trees.specs.declared.path.Segment.{Segment}
 use Rattle.source_trees.specs.declared.statement.StmtKind.{StmtKind}
 use Rattle.source_trees.specs.declared.statement.StmtKind.TheVariants as kind
@@ -36,8 +38,8 @@ use Rattle.type_check.specs.declared.scope.Found.{Found}
 use Rattle.type_check.specs.declared.scope.Variable.{Variable}
 use Rattle.type_check.specs.declared.statements.Step.{Step}
 use Rattle.type_check.specs.Answers.{◌>>=◌, unknown_name, mismatch, unbuilt, not_mutable, with_some, gather}
-use Rattle.type_check.specs.Causes.{IsMismatch, IsUnbuilt, IsUnknown, IsNotRead, IsNotWritten, IsNotCalled, IsNoPart, IsNoField, IsNoType, root_name, Causes, CausesInStmts, CausesInArgs, CausesInFields}
-use Rattle.type_check.specs.Functions.{callee}
+use Rattle.type_check.specs.Causes.{IsMismatch, IsUnbuilt, IsNoValue, IsNotWritten, IsNotCalled, IsNoPart, IsNoField, IsNoType, root_name, Causes, CausesInStmts, CausesInArgs, CausesInFields}
+use Rattle.type_check.specs.Constructors.{Maker, maker_of}
 use Rattle.type_check.specs.Scope.{found}
 use Rattle.type_check.specs.Breaks.{breaks}
 use Rattle.type_check.specs.Setting.{Setting, looping, outside}
@@ -45,10 +47,10 @@ use Rattle.type_check.specs.TypedExpr.{TypedExpr, TypedStmts, TypedExprs}
 use Rattle.type_check.specs.TypedExpr as tree
 use Rattle.type_check.specs.TypedExprView.{ty_of, stmts_of}
 use Rattle.type_check.specs.Types.{same_ty, is_signed_ty, is_built}
-use Rattle.type_check.specs.Typing.{Typed, fit, literal_kind, literal_of, literal, variable_of, variable, named, negated, is_bare, order_of, operands_of, operands, operation, operated, may_write, if_mutable, writing, assigned}
-use Rattle.type_check.specs.Typing.{is_updated, updated, known, callee_of, how_many, first_of, rest_of, called, asked, block_ty, declared, behind, typed_stmt, without_last, closed, given, choice_ty, cause_of, nothing, returned, endless, in_a_loop, invariant_by, invariant_of, parts_of, tupled, is_boxed, part_number, part_if, field_of, part_by, parted, selected, Maker, maker_of, next_field, fields_behind, literal_made, typed, typed_stmts, typed_args, typed_fields}
+use Rattle.type_check.specs.Typing.{Typed, fit, literal_kind, literal_of, literal, negated, is_bare, order_of, operands_of, operands, operation, operated, may_write, if_mutable, writing, assigned}
+use Rattle.type_check.specs.Typing.{is_updated, updated, local_of, made_alone, named_by, named, Called, of_function, of_maker, callee_of, params_of, call_of, how_many, first_of, rest_of, called, asked, block_ty, declared, behind, typed_stmt, without_last, closed, given, choice_ty, cause_of, nothing, returned, endless, in_a_loop, invariant_by, invariant_of, parts_of, tupled, is_boxed, part_number, part_if, field_of, part_by, parted, selected, next_field, fields_behind, no_field_left, literal_made, typed, typed_stmts, typed_args, typed_fields}
 use Rattle.type_check.specs.WellTyped.{unit, is_arithmetic, operation_ty, tys_of_exprs}
-use Rattle.type_check.specs.Written.{as_name, name_alone, written_type, written_or_none, name_or, declared_by, step_of}
+use Rattle.type_check.specs.Written.{name_alone, written_type, written_or_none, name_or, declared_by, step_of}
 use Rattle.type_check.proofs.Bound.{yes}
 use Rattle.type_check.proofs.Targets.{IsNamed, constant_named, typed_named}
 
@@ -74,18 +76,6 @@ literal_at t s z (Some k) e p = unheld (fits k z) (fit t s (tree.integer (int k)
 literal_stops : (t : Option Ty) (s : Span) (z : ℤ) (k : Option IntKind) (e : SourceError) → literal t s z k ≡ Err e → IsMismatch e
 unfolding literal
 literal_stops t s z k e p = literal_at t s z (literal_kind k t) e p
-
-variable_at : (t : Option Ty) (s : Span) (o : Option Found) (e : SourceError) → variable_of t s o ≡ Err e → IsMismatch e ⊎ ((e ≡ unknown_name s) × (o ≡ None))
-variable_at t s None e p = let q : unknown_name s ≡ e = cc in inr (sym q, refl)
-variable_at t s (Some v) e p = inl (fit_stops t s (tree.variable v.ty s v.place) e p)
-
-variable_stops : (Γ : List Variable) (t : Option Ty) (s : Span) (x : Name) (e : SourceError) → variable Γ t s x ≡ Err e → IsMismatch e ⊎ IsUnknown Γ x s e
-unfolding variable
-variable_stops Γ t s x e p = variable_at t s (found x Γ) e p
-
-named_stops : (Γ : List Variable) (t : Option Ty) (s : Span) (o : Option Segment) (e : SourceError) → named Γ t s o ≡ Err e → IsMismatch e ⊎ IsNotRead Γ s o e
-named_stops Γ t s None e p = let q : unbuilt s ≡ e = cc in inr (sym q)
-named_stops Γ t s (Some x) e p = variable_stops Γ t s x.name e p
 
 negated_stops : (t : Option Ty) (s o r : Span) (a : TypedExpr) (e : SourceError) → negated t s o r a ≡ Err e → IsMismatch e
 unfolding negated
@@ -171,18 +161,6 @@ assignment_stops σ Γ l r k e hk hl hr p =
 
 -- ---- calls and blocks
 
-known_stops : (s : Span) (o : Option Callee) (e : SourceError) → known s o ≡ Err e → (e ≡ unknown_name s) × (o ≡ None)
-known_stops s None e p = let q : unknown_name s ≡ e = cc in (sym q, refl)
-known_stops s (Some f) e p = absurd (cc)
-
-callee_stops : (σ : List Heading) (Γ : List Variable) (s : Span) (o : Option Segment) (e : SourceError) → callee_of σ Γ s o ≡ Err e → IsNotCalled σ Γ s o e
-callee_stops σ Γ s None e p = let q : unbuilt s ≡ e = cc in sym q
-callee_stops σ Γ s (Some x) e p = known_stops x.span (callee σ Γ x.name) e p
-
-called_stops : (t : Option Ty) (s : Span) (f : Callee) (es : TypedExprs) (e : SourceError) → called t s f es ≡ Err e → IsMismatch e
-unfolding called
-called_stops t s f es e p = unheld (how_many es == length f.signature.params) (fit t s (tree.call f.signature.answer s f.place es)) s e (fit_stops t s (tree.call f.signature.answer s f.place es) e) p
-
 closed_stops : (t : Option Ty) (s : Span) (ss : TypedStmts) (e : SourceError) → closed t s ss ≡ Err e → IsMismatch e
 unfolding closed
 closed_stops t s ss e p = fit_stops t s (tree.block (block_ty t ss) s ss) e p
@@ -224,7 +202,35 @@ selected_stops σ Γ a t s x v e is p =
 
 literal_stops_of : (t : Option Ty) (s : Span) (m : Maker) (es : TypedExprs) (e : SourceError) → literal_made t s m es ≡ Err e → IsMismatch e
 unfolding literal_made
-literal_stops_of t s m es e p = fit_stops t s (tree.make (adt m.number [] m.arguments) s (Variant m.number 0) es) e p
+literal_stops_of t s m es e p = fit_stops t s (tree.make (adt m.number [] m.arguments) s (Variant m.number m.variant) es) e p
+
+-- a value without fields
+alone_stops : (σ : Setting) (Γ : List Variable) (t : Option Ty) (s : Span) (w : PathNode) (m : Maker) (e : SourceError) → local_of Γ (name_alone w) ≡ None → maker_of σ.types Alone t s w ≡ Ok m → made_alone t s m ≡ Err e → IsMismatch e ⊎ IsNoValue σ Γ s w e
+alone_stops σ Γ t s w m e none is p =
+    elim (stop (no_field_left s m.fields) (literal_made t s m) e p) as (λ _. IsMismatch e ⊎ IsNoValue σ Γ s w e) [
+      | inl q ↦ inr (none, t, ap (λ (n : Result Maker SourceError). n >>= λ k. no_field_left s k.fields) is ∙ q)
+      | inr es ↦ inl (literal_stops_of t s m es.0 e es.2)
+    ]
+
+path_stops : (σ : Setting) (Γ : List Variable) (t : Option Ty) (s : Span) (w : PathNode) (o : Option Found) (e : SourceError) → local_of Γ (name_alone w) ≡ o → named_by σ.types t s w o ≡ Err e → IsMismatch e ⊎ IsNoValue σ Γ s w e
+path_stops σ Γ t s w (Some v) e h p = inl (fit_stops t s (tree.variable v.ty s v.place) e p)
+path_stops σ Γ t s w None e h p =
+    elim (stop (maker_of σ.types Alone t s w) (made_alone t s) e p) as (λ _. IsMismatch e ⊎ IsNoValue σ Γ s w e) [
+      | inl q ↦ inr (h, t, ap (λ (n : Result Maker SourceError). n >>= λ k. no_field_left s k.fields) q)
+      | inr m ↦ alone_stops σ Γ t s w m.0 e h m.1 m.2
+    ]
+
+named_stops : (σ : Setting) (Γ : List Variable) (t : Option Ty) (s : Span) (w : PathNode) (e : SourceError) → named σ.types Γ t s w ≡ Err e → IsMismatch e ⊎ IsNoValue σ Γ s w e
+unfolding named
+named_stops σ Γ t s w e p = path_stops σ Γ t s w (local_of Γ (name_alone w)) e refl p
+
+call_stops : (t : Option Ty) (s : Span) (c : Called) (es : TypedExprs) (e : SourceError) → call_of t s c es ≡ Err e → IsMismatch e
+call_stops t s (of_function f) es e p = fit_stops t s (tree.call f.signature.answer s f.place es) e p
+call_stops t s (of_maker m) es e p = literal_stops_of t s m es e p
+
+called_stops : (t : Option Ty) (s : Span) (c : Called) (es : TypedExprs) (e : SourceError) → called t s c es ≡ Err e → IsMismatch e
+unfolding called
+called_stops t s c es e p = unheld (how_many es == length (params_of c)) (call_of t s c es) s e (call_stops t s c es e) p
 
 not_built : {A : Type 0} (s : Span) (e : SourceError) → ◌≡◌ {A = Result A SourceError} (Err (unbuilt s)) (Err e) → IsUnbuilt e
 not_built s e p = let q : unbuilt s ≡ e = cc in (s, sym q)
@@ -309,7 +315,7 @@ mutual
   pub typed_stops : (σ : Setting) (Γ : List Variable) (a : Expr) (t : Option Ty) (e : SourceError) → typed σ Γ a t ≡ Err e → Causes σ Γ a e
   typed_stops σ Γ (E.integer s z k) t e p = literal_stops t s z k e p
   typed_stops σ Γ (E.truth s b) t e p = fit_stops t s (tree.truth bool s b) e p
-  typed_stops σ Γ (E.path s w) t e p = named_stops Γ t s (name_alone w.node) e p
+  typed_stops σ Γ (E.path s w) t e p = named_stops σ Γ t s w.node e p
   typed_stops σ Γ (E.unary s Neg o a) t e p =
       elim (stop (typed σ Γ a t) _ e p) as (λ _. Causes σ Γ (E.unary s Neg o a) e) [
         | inl q ↦ inr (typed_stops σ Γ a t e q)
@@ -343,10 +349,10 @@ mutual
       assignment_stops σ Γ l a (updated Γ t s o (span_of l) op) e (λ x y q. updated_stops Γ t s o (span_of l) op x y e q)
       (λ q. typed_stops σ Γ l None e q) (λ u q. typed_stops σ Γ a u e q) p
   typed_stops σ Γ (E.call s f es) t e p =
-      elim (stop (callee_of σ.headings Γ s (as_name f)) _ e p) as (λ _. Causes σ Γ (E.call s f es) e) [
-        | inl q ↦ inl (inr (callee_stops σ.headings Γ s (as_name f) e q))
-        | inr g ↦ elim (stop (typed_args σ Γ es g.0.signature.params) _ e g.2) as (λ _. Causes σ Γ (E.call s f es) e) [
-          | inl q ↦ inr (args_stop σ Γ es g.0.signature.params e q)
+      elim (stop (callee_of σ Γ t s f) _ e p) as (λ _. Causes σ Γ (E.call s f es) e) [
+        | inl q ↦ inl (inr (t, q))
+        | inr g ↦ elim (stop (typed_args σ Γ es (params_of g.0)) _ e g.2) as (λ _. Causes σ Γ (E.call s f es) e) [
+          | inl q ↦ inr (args_stop σ Γ es (params_of g.0) e q)
           | inr y ↦ inl (inl (called_stops t s g.0 y.0 e y.2))
         ]
       ]
@@ -366,7 +372,7 @@ mutual
         | inr v ↦ inl (selected_stops σ Γ a t s x v.0 e v.1 v.2)
       ]
   typed_stops σ Γ (E.literal s w fs) t e p =
-      elim (stop (maker_of σ.types t s (name_alone w.node)) _ e p) as (λ _. Causes σ Γ (E.literal s w fs) e) [
+      elim (stop (maker_of σ.types Named t s w.node) _ e p) as (λ _. Causes σ Γ (E.literal s w fs) e) [
         | inl q ↦ inl (inr (t, q))
         | inr m ↦ elim (stop (typed_fields σ Γ s m.0 m.0.fields fs) _ e m.2) as (λ _. Causes σ Γ (E.literal s w fs) e) [
           | inl q ↦ inr (m.0, fields_stop σ Γ s m.0 m.0.fields fs e q)

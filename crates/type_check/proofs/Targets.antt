@@ -6,9 +6,11 @@ use Rattle.source_kinds.specs.declared.kinds.BinaryOp.{BinaryOp}
 use Rattle.source_kinds.specs.declared.kinds.IntKind.{IntKind}
 use Rattle.source_kinds.specs.Range.{fits}
 use Rattle.logic_term.specs.declared.declaration.AdtDecl.{AdtDecl}
+use Rattle.logic_term.specs.declared.declaration.VariantKind.TheVariants.{Named, Unit as Alone}
 use Rattle.logic_term.specs.declared.kinds.Ctor.TheVariants.{Tuple, Variant}
 use Rattle.logic_term.specs.Ty.{Ty, int, bool, tuple, adt}
 use Rattle.source_trees.specs.declared.operator.UnaryOp.TheVariants.{Neg, Not}
+use Rattle.source_trees.specs.declared.path.PathNode.{PathNode}
 use Rattle.source_trees.specs.declared.path.Segment.{Segment}
 use Rattle.source_trees.specs.Expr as E
 use Rattle.source_trees.specs.Expr.{Expr}
@@ -25,9 +27,10 @@ use Rattle.type_check.specs.TypedExpr.{TypedExpr, TypedStmts, TypedExprs}
 use Rattle.type_check.specs.TypedExpr as tree
 use Rattle.type_check.specs.TypedExprView.{ty_of, stmts_of}
 use Rattle.type_check.specs.Types.{same_ty, is_signed_ty, is_built}
-use Rattle.type_check.specs.Typing.{fit, literal_kind, literal_of, literal, variable_of, variable, named, negated, is_bare, order_of, operands, operation, operated, is_mutable, may_write, assigned, is_updated, updated}
-use Rattle.type_check.specs.Typing.{callee_of, called, asked, block_ty, without_last, closed, given, choice_ty, cause_of, nothing, returned, endless, invariant_of, parts_of, tupled, is_boxed, part_number, part_if, field_of, part_by, parted, selected, maker_of, literal_made, typed, typed_stmts, typed_args, typed_fields}
+use Rattle.type_check.specs.Typing.{fit, literal_kind, literal_of, literal, negated, is_bare, order_of, operands, operation, operated, is_mutable, may_write, assigned, is_updated, updated}
+use Rattle.type_check.specs.Typing.{local_of, made_alone, named_by, named, Called, of_function, of_maker, callee_of, params_of, call_of, called, asked, block_ty, without_last, closed, given, choice_ty, cause_of, nothing, returned, endless, invariant_of, parts_of, tupled, is_boxed, part_number, part_if, field_of, part_by, parted, selected, no_field_left, literal_made, typed, typed_stmts, typed_args, typed_fields}
 use Rattle.type_check.specs.Causes.{root_name}
+use Rattle.type_check.specs.Constructors.{maker_of}
 use Rattle.type_check.specs.WellTyped.{unit, is_arithmetic, operation_ty, tys_of_exprs}
 use Rattle.type_check.specs.Written.{as_name, name_alone}
 use Rattle.type_check.proofs.Bound.{bound, held, yes, same_ok}
@@ -54,14 +57,26 @@ literal_at : (Γ : List Variable) (t : Option Ty) (s : Span) (z : ℤ) (k : Opti
 literal_at Γ t s z None r p = absurd (cc)
 literal_at Γ t s z (Some k) r p = fit_named Γ None t s (tree.integer (int k) s z k) r tt (held (fits k z) (fit t s (tree.integer (int k) s z k)) (mismatch s) r p).1
 
-variable_at : (Γ : List Variable) (t : Option Ty) (s : Span) (y : Segment) (o : Option Found) (r : TypedExpr) → found y.name Γ ≡ o → variable_of t s o ≡ Ok r → IsNamed Γ (Some y) r
-variable_at Γ t s y None r q p = absurd (cc)
-variable_at Γ t s y (Some v) r q p = fit_named Γ (Some y) t s (tree.variable v.ty s v.place) r (y, refl, v, q, refl) p
+local_named : (Γ : List Variable) (x : Option Segment) (v : Found) → local_of Γ x ≡ Some v → (y : Segment) × (x ≡ Some y) × (w : Found) × (found y.name Γ ≡ Some w) × (w.place ≡ v.place)
+local_named Γ None v p = absurd (cc)
+local_named Γ (Some y) v p = (y, refl, v, p, refl)
 
-path_named : (Γ : List Variable) (t : Option Ty) (s : Span) (x : Option Segment) (r : TypedExpr) → named Γ t s x ≡ Ok r → IsNamed Γ x r
-unfolding variable
-path_named Γ t s None r p = absurd (cc)
-path_named Γ t s (Some y) r p = variable_at Γ t s y (found y.name Γ) r refl p
+path_at : (ds : List AdtDecl) (Γ : List Variable) (t : Option Ty) (s : Span) (w : PathNode) (o : Option Found) (r : TypedExpr) → local_of Γ (name_alone w) ≡ o → named_by ds t s w o ≡ Ok r → IsNamed Γ (name_alone w) r
+unfolding literal_made
+path_at ds Γ t s w (Some v) r q p = fit_named Γ (name_alone w) t s (tree.variable v.ty s v.place) r (local_named Γ (name_alone w) v q) p
+path_at ds Γ t s w None r q p =
+    let m = bound (maker_of ds Alone t s w) (made_alone t s) r p in
+    let es = bound (no_field_left s m.0.fields) (literal_made t s m.0) r m.2 in
+    fit_named Γ (name_alone w) t s (tree.make (adt m.0.number [] m.0.arguments) s (Variant m.0.number m.0.variant) es.0) r tt es.2
+
+path_named : (ds : List AdtDecl) (Γ : List Variable) (t : Option Ty) (s : Span) (w : PathNode) (r : TypedExpr) → named ds Γ t s w ≡ Ok r → IsNamed Γ (name_alone w) r
+unfolding named
+path_named ds Γ t s w r p = path_at ds Γ t s w (local_of Γ (name_alone w)) r refl p
+
+call_named : (Γ : List Variable) (t : Option Ty) (s : Span) (c : Called) (es : TypedExprs) (r : TypedExpr) → call_of t s c es ≡ Ok r → IsNamed Γ None r
+unfolding literal_made
+call_named Γ t s (of_function f) es r p = fit_named Γ None t s (tree.call f.signature.answer s f.place es) r tt p
+call_named Γ t s (of_maker m) es r p = fit_named Γ None t s (tree.make (adt m.number [] m.arguments) s (Variant m.number m.variant) es) r tt p
 
 operation_named : (Γ : List Variable) (u t : Option Ty) (s o r : Span) (op : BinaryOp) (p : Operands) (e : TypedExpr) → operation u t s o r op p ≡ Ok e → IsNamed Γ None e
 operation_named Γ None t s o r op p e h = absurd (cc)
@@ -84,7 +99,7 @@ pub typed_named : (σ : Setting) (Γ : List Variable) (e : Expr) (t : Option Ty)
 unfolding as_name literal negated operated assigned updated called closed tupled parted selected literal_made
 typed_named σ Γ (E.integer s z k) t r p = literal_at Γ t s z (literal_kind k t) r p
 typed_named σ Γ (E.truth s b) t r p = fit_named Γ None t s (tree.truth bool s b) r tt p
-typed_named σ Γ (E.path s w) t r p = path_named Γ t s (name_alone w.node) r p
+typed_named σ Γ (E.path s w) t r p = path_named σ.types Γ t s w.node r p
 typed_named σ Γ (E.unary s Neg o e) t r p =
     let a = bound (typed σ Γ e t) _ r p in
     fit_named Γ None t s (tree.negative (ty_of a.0) o a.0) r tt (held (is_signed_ty (ty_of a.0)) _ (mismatch (span_of e)) r a.2).1
@@ -108,9 +123,9 @@ typed_named σ Γ (E.update s op o l e) t r p =
     fit_named Γ None t s (tree.update unit o op a.0 b.0) r tt
     (written_fits Γ t s (span_of l) a.0 (tree.update unit o op a.0 b.0) r (held (is_updated op (ty_of a.0)) _ (mismatch (span_of l)) r b.2).1)
 typed_named σ Γ (E.call s f es) t r p =
-    let g = bound (callee_of σ.headings Γ s (as_name f)) _ r p in
-    let as' = bound (typed_args σ Γ es g.0.signature.params) _ r g.2 in
-    fit_named Γ None t s (tree.call g.0.signature.answer s g.0.place as'.0) r tt (held _ _ (mismatch s) r as'.2).1
+    let g = bound (callee_of σ Γ t s f) _ r p in
+    let as' = bound (typed_args σ Γ es (params_of g.0)) _ r g.2 in
+    call_named Γ t s g.0 as'.0 r (held _ _ (mismatch s) r as'.2).1
 typed_named σ Γ (E.tuple s es) t r p =
     let as' = bound (typed_args σ Γ es (parts_of t)) _ r p in
     fit_named Γ None t s (tree.make (tuple (tys_of_exprs as'.0)) s Tuple as'.0) r tt as'.2
@@ -121,9 +136,9 @@ typed_named σ Γ (E.field s e x []) t r p =
     let a = bound (typed σ Γ e None) _ r p in
     part_named σ.types Γ (root_name e) t s x.span a.0 (field_of σ.types x.name (ty_of a.0)) r (typed_named σ Γ e None a.0 a.1) a.2
 typed_named σ Γ (E.literal s w fs) t r p =
-    let m = bound (maker_of σ.types t s (name_alone w.node)) _ r p in
+    let m = bound (maker_of σ.types Named t s w.node) _ r p in
     let as' = bound (typed_fields σ Γ s m.0 m.0.fields fs) _ r m.2 in
-    fit_named Γ None t s (tree.make (adt m.0.number [] m.0.arguments) s (Variant m.0.number 0) as'.0) r tt as'.2
+    fit_named Γ None t s (tree.make (adt m.0.number [] m.0.arguments) s (Variant m.0.number m.0.variant) as'.0) r tt as'.2
 typed_named σ Γ (E.block s ss) t r p =
     let o = bound (typed_stmts σ Γ ss) _ r p in
     fit_named Γ None t s (tree.block (block_ty t (without_last o.0.stmts)) s (without_last o.0.stmts)) r tt o.2

@@ -5,9 +5,11 @@ use Rattle.text_core.specs.declared.name.Name.{Name}
 use Rattle.text_core.specs.declared.refusal.SourceError.{SourceError}
 use Rattle.text_core.specs.declared.span.Span.{Span}
 use Rattle.logic_term.specs.declared.declaration.FieldDecl.{FieldDecl}
+use Rattle.logic_term.specs.declared.declaration.VariantKind.TheVariants.{Named, Unit as Alone}
 use Rattle.logic_term.specs.Ty.{Ty}
 use Rattle.source_trees.specs.declared.operator.UnaryOp.TheVariants.{Neg, Not}
 use Rattle.source_trees.specs.declared.path.Number.{Number}
+use Rattle.source_trees.specs.declared.path.PathNode.{PathNode}
 use Rattle.source_trees.specs.declared.path.Segment.{Segment}
 use Rattle.source_trees.specs.declared.statement.StmtKind.{StmtKind}
 use Rattle.source_trees.specs.declared.statement.StmtKind.TheVariants.{Let}
@@ -15,17 +17,16 @@ use Rattle.source_trees.specs.TypeTree.{TypeTree}
 use Rattle.source_trees.specs.Expr as E
 use Rattle.source_trees.specs.Expr.{Expr}
 use Rattle.source_trees.specs.ExprView.{span_of}
-use Rattle.type_check.specs.declared.heading.Heading.{Heading}
 use Rattle.type_check.specs.declared.scope.Found.{Found}
 use Rattle.type_check.specs.declared.scope.Variable.{Variable}
 use Rattle.type_check.specs.declared.statements.Step.{Step}
-use Rattle.type_check.specs.Answers.{unknown_name, mismatch, unbuilt, not_mutable}
-use Rattle.type_check.specs.Functions.{callee}
+use Rattle.type_check.specs.Answers.{◌>>=◌, unknown_name, mismatch, unbuilt, not_mutable}
+use Rattle.type_check.specs.Constructors.{Maker, maker_of}
 use Rattle.type_check.specs.Scope.{found}
 use Rattle.type_check.specs.Setting.{Setting, looping, outside}
 use Rattle.type_check.specs.TypedExpr.{TypedExpr}
 use Rattle.type_check.specs.TypedExprView.{ty_of}
-use Rattle.type_check.specs.Typing.{Opened, declared, is_mutable, part_number, part_if, field_of, Maker, maker_of, next_field, fields_behind, no_field_left, typed, typed_stmts}
+use Rattle.type_check.specs.Typing.{Opened, declared, is_mutable, part_number, part_if, field_of, local_of, callee_of, next_field, fields_behind, no_field_left, typed, typed_stmts}
 use Rattle.type_check.specs.Written.{as_name, name_alone, step_of, written_type}
 
 abbrev pub IsMismatch : SourceError → Type 0
@@ -42,10 +43,9 @@ IsUnknown Γ x s e = (e ≡ unknown_name s) × (found x Γ ≡ None)
 abbrev pub IsConstant : List Variable → Name → Span → SourceError → Type 0
 IsConstant Γ x s e = (v : Found) × (found x Γ ≡ Some v) × (is_mutable (slice_get Γ v.place) ≡ false) × (e ≡ not_mutable s)
 
--- a path that is no name alone is not built
-abbrev pub IsNotRead : List Variable → Span → Option Segment → SourceError → Type 0
-IsNotRead Γ s None e = e ≡ unbuilt s
-IsNotRead Γ s (Some x) e = IsUnknown Γ x.name s e
+-- no variable is the path, and it makes no value without fields, or its type arguments are not found
+abbrev pub IsNoValue : Setting → List Variable → Span → PathNode → SourceError → Type 0
+IsNoValue σ Γ s p e = (local_of Γ (name_alone p) ≡ None) × (t : Option Ty) × ((maker_of σ.types Alone t s p >>= λ m. no_field_left s m.fields) ≡ Err e)
 
 -- the name at the root of the parts
 abbrev pub root_name : Expr → Option Segment
@@ -57,10 +57,9 @@ root_name e = as_name e
 abbrev pub IsNotWritten : List Variable → Expr → SourceError → Type 0
 IsNotWritten Γ l e = (x : Segment) × (root_name l ≡ Some x) × IsConstant Γ x.name (span_of l) e
 
--- what is called is no name alone, or a name that no function has there; the span is that of the call
-abbrev pub IsNotCalled : List Heading → List Variable → Span → Option Segment → SourceError → Type 0
-IsNotCalled σ Γ s None e = e ≡ unbuilt s
-IsNotCalled σ Γ s (Some x) e = (e ≡ unknown_name x.span) × (callee σ Γ x.name ≡ None)
+-- what is called is neither a function nor makes a value of arguments, or its type arguments are not found; the span is that of the call
+abbrev pub IsNotCalled : Setting → List Variable → Span → Expr → SourceError → Type 0
+IsNotCalled σ Γ s f e = (t : Option Ty) × (callee_of σ Γ t s f ≡ Err e)
 
 -- it stands in no loop
 abbrev pub IsInNoLoop : Setting → Span → SourceError → Type 0
@@ -74,9 +73,9 @@ IsNoPart σ Γ a k e = (v : TypedExpr) × (typed σ Γ a None ≡ Ok v) × (part
 abbrev pub IsNoField : Setting → List Variable → Expr → Segment → SourceError → Type 0
 IsNoField σ Γ a x e = (v : TypedExpr) × (typed σ Γ a None ≡ Ok v) × (field_of σ.types x.name (ty_of v) ≡ None) × (e ≡ unknown_name x.span)
 
--- a literal makes no such struct, or its type arguments are not found
-abbrev pub IsNotMade : Setting → Option Ty → Span → Option Segment → SourceError → Type 0
-IsNotMade σ t s o e = maker_of σ.types t s o ≡ Err e
+-- a literal makes no value with named fields, or its type arguments are not found
+abbrev pub IsNotMade : Setting → Span → PathNode → SourceError → Type 0
+IsNotMade σ s p e = (t : Option Ty) × (maker_of σ.types Named t s p ≡ Err e)
 
 -- the type that a `let` has
 abbrev pub written_in : StmtKind → Option TypeTree
@@ -92,19 +91,19 @@ abbrev mutual
   pub Causes : Setting → List Variable → Expr → SourceError → Type 0
   Causes σ Γ (E.integer s z k) e = IsMismatch e
   Causes σ Γ (E.truth s b) e = IsMismatch e
-  Causes σ Γ (E.path s p) e = IsMismatch e ⊎ IsNotRead Γ s (name_alone p.node) e
+  Causes σ Γ (E.path s p) e = IsMismatch e ⊎ IsNoValue σ Γ s p.node e
   Causes σ Γ (E.unary s Neg o a) e = IsMismatch e ⊎ Causes σ Γ a e
   Causes σ Γ (E.unary s Not o a) e = IsMismatch e ⊎ Causes σ Γ a e
   Causes σ Γ (E.binary s op o a b) e = IsMismatch e ⊎ (Causes σ Γ a e ⊎ Causes σ Γ b e)
   Causes σ Γ (E.lazy s op a b) e = IsMismatch e ⊎ (Causes σ Γ a e ⊎ Causes σ Γ b e)
   Causes σ Γ (E.assign s l a) e = (IsMismatch e ⊎ IsNotWritten Γ l e) ⊎ (Causes σ Γ l e ⊎ Causes σ Γ a e)
   Causes σ Γ (E.update s op o l a) e = (IsMismatch e ⊎ IsNotWritten Γ l e) ⊎ (Causes σ Γ l e ⊎ Causes σ Γ a e)
-  Causes σ Γ (E.call s f es) e = (IsMismatch e ⊎ IsNotCalled σ.headings Γ s (as_name f) e) ⊎ CausesInArgs σ Γ es e
+  Causes σ Γ (E.call s f es) e = (IsMismatch e ⊎ IsNotCalled σ Γ s f e) ⊎ CausesInArgs σ Γ es e
   Causes σ Γ (E.tuple s es) e = IsMismatch e ⊎ CausesInArgs σ Γ es e
   -- the number is that of no part
   Causes σ Γ (E.part s a k) e = ((IsMismatch e ⊎ IsUnbuilt e) ⊎ IsNoPart σ Γ a k e) ⊎ Causes σ Γ a e
   Causes σ Γ (E.field s a x []) e = ((IsMismatch e ⊎ IsUnbuilt e) ⊎ IsNoField σ Γ a x e) ⊎ Causes σ Γ a e
-  Causes σ Γ (E.literal s p fs) e = (IsMismatch e ⊎ ((t : Option Ty) × IsNotMade σ t s (name_alone p.node) e)) ⊎ ((m : Maker) × CausesInFields σ Γ s m m.fields fs e)
+  Causes σ Γ (E.literal s p fs) e = (IsMismatch e ⊎ IsNotMade σ s p.node e) ⊎ ((m : Maker) × CausesInFields σ Γ s m m.fields fs e)
   Causes σ Γ (E.block s ss) e = IsMismatch e ⊎ CausesInStmts σ Γ ss e
   Causes σ Γ (E.block_with s ss a) e = IsMismatch e ⊎ (CausesInStmts σ Γ ss e ⊎ ((o : Opened) × (typed_stmts σ Γ ss ≡ Ok o) × Causes σ o.scope a e))
   Causes σ Γ (E.branch s None c a) e = IsMismatch e ⊎ (Causes σ Γ c e ⊎ Causes σ Γ a e)

@@ -8,6 +8,8 @@ use Rattle.logic_term.specs.Ty.{Ty, adt, param, unit_ty}
 use Rattle.logic_term.specs.declared.declaration.AdtDecl.{AdtDecl}
 use Rattle.logic_term.specs.declared.declaration.FieldDecl.{FieldDecl}
 use Rattle.logic_term.specs.declared.declaration.VariantDecl.{VariantDecl}
+use Rattle.logic_term.specs.declared.declaration.VariantKind.{VariantKind}
+use Rattle.logic_term.specs.declared.declaration.VariantKind.TheVariants as kind
 use Rattle.logic_term.specs.declared.kinds.Region.{Region}
 use Rattle.source_trees.specs.declared.attribute.Attribute.{Attribute}
 use Rattle.source_trees.specs.declared.attribute.AttributeNode.{AttributeNode}
@@ -113,7 +115,7 @@ option_type = record {
   name = record { 0 = 14 };
   regions = 0;
   params = 1;
-  variants = record { name = record { 0 = 15 }; fields = [] } ∷ record { name = record { 0 = 16 }; fields = record { name = numbered 0; ty = param 0; span = nowhere } ∷ [] } ∷ [];
+  variants = record { name = record { 0 = 15 }; kind = kind.Unit; fields = [] } ∷ record { name = record { 0 = 16 }; kind = kind.Numbered; fields = record { name = numbered 0; ty = param 0; span = nowhere } ∷ [] } ∷ [];
   is_struct = false;
   copy = true;
   span = nowhere;
@@ -158,9 +160,20 @@ variant_fields Γ parts.Unit = []
 variant_fields Γ (parts.Tuple ws) = parts_from Γ 0 ws
 variant_fields Γ (parts.Named fs) = fields_from Γ 0 fs
 
+-- how they are written
+abbrev pub struct_kind : Fields → VariantKind
+struct_kind fields.Unit = kind.Unit
+struct_kind (fields.Tuple fs) = kind.Numbered
+struct_kind (fields.Named fs) = kind.Named
+
+abbrev pub variant_kind : VariantFields → VariantKind
+variant_kind parts.Unit = kind.Unit
+variant_kind (parts.Tuple ws) = kind.Numbered
+variant_kind (parts.Named fs) = kind.Named
+
 abbrev pub variants_of : Scope → List Variant → List VariantDecl
 variants_of Γ [] = []
-variants_of Γ (v ∷ vs) = record { name = v.name.name; fields = variant_fields Γ v.fields } ∷ variants_of Γ vs
+variants_of Γ (v ∷ vs) = record { name = v.name.name; kind = variant_kind v.fields; fields = variant_fields Γ v.fields } ∷ variants_of Γ vs
 
 -- ---- declared types
 
@@ -178,7 +191,7 @@ abbrev pub item_scope : List AdtDecl → ℕ → List GenericParam → Scope
 item_scope hs n gs = record { declared = hs; lifetimes = lifetimes_of gs; parameters = parameters_of gs; self_ty = Some (own_type n gs); has_int = false }
 
 abbrev pub declared_type : List AdtDecl → ℕ → List Attribute → ItemNode → Option AdtDecl
-declared_type hs n as' (item.Struct s) = Some (decl_of s.name s.generics true as' (record { name = s.name.name; fields = struct_fields (item_scope hs n s.generics) s.fields } ∷ []))
+declared_type hs n as' (item.Struct s) = Some (decl_of s.name s.generics true as' (record { name = s.name.name; kind = struct_kind s.fields; fields = struct_fields (item_scope hs n s.generics) s.fields } ∷ []))
 declared_type hs n as' (item.Enum e) = Some (decl_of e.name e.generics false as' (variants_of (item_scope hs n e.generics) e.variants))
 declared_type hs n as' _ = None
 

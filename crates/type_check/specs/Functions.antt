@@ -3,9 +3,6 @@ use Rattle.std.specs.Prelude.{ℕ, ◌+◌, ◌==◌, List, [], ◌∷◌, Optio
 use Rattle.text_core.specs.declared.name.Name.{Name}
 use Rattle.type_check.specs.declared.heading.Callee.{Callee}
 use Rattle.type_check.specs.declared.heading.Heading.{Heading}
-use Rattle.type_check.specs.declared.scope.Found.{Found}
-use Rattle.type_check.specs.declared.scope.Variable.{Variable}
-use Rattle.type_check.specs.Scope.{found}
 
 abbrev pub callee_at : ℕ → Heading → Callee
 callee_at k h = record { place = k; signature = h.signature }
@@ -14,11 +11,3 @@ callee_at k h = record { place = k; signature = h.signature }
 abbrev pub function_from : ℕ → Name → List Heading → Option Callee
 function_from k x [] = None
 function_from k x (h ∷ hs) = if x.0 == h.name.0 then Some (callee_at k h) else function_from (k + 1) x hs
-
-abbrev pub unless_variable : Option Found → Option Callee → Option Callee
-unless_variable None f = f
-unless_variable (Some v) f = None
-
--- a variable of the name hides the function
-unfoldable pub callee : List Heading → List Variable → Name → Option Callee
-callee σ Γ x = unless_variable (found x Γ) (function_from 0 x σ)

@@ -3,6 +3,7 @@ pub mod Breaks
 pub mod Causes
 pub mod Chains
 pub mod Checked
+pub mod Constructors
 pub mod DeclaredTypes
 pub mod Declaring
 pub mod FirstBad

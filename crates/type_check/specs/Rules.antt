@@ -5,6 +5,7 @@ use Rattle.std.specs.Prelude.{◌≡◌, List, [], Option, Some, None, Result, O
 use Rattle.text_core.specs.declared.refusal.SourceError.{SourceError}
 use Rattle.text_core.specs.declared.span.Span.{Span}
 use Rattle.logic_term.specs.declared.declaration.FieldDecl.{FieldDecl}
+use Rattle.logic_term.specs.declared.declaration.VariantKind.TheVariants.{Named}
 use Rattle.logic_term.specs.Ty.{Ty, bool}
 use Rattle.source_trees.specs.declared.operator.UnaryOp.TheVariants.{Neg, Not}
 use Rattle.source_trees.specs.Expr as E
@@ -15,13 +16,14 @@ use Rattle.type_check.specs.declared.operands.Order.{Order}
 use Rattle.type_check.specs.declared.operands.Order.TheVariants as order
 use Rattle.type_check.specs.declared.scope.Variable.{Variable}
 use Rattle.type_check.specs.Answers.{unbuilt, gather}
+use Rattle.type_check.specs.Constructors.{Maker, maker_of}
 use Rattle.type_check.specs.Setting.{Setting, looping, outside}
 use Rattle.type_check.specs.TypedExpr.{TypedExpr, TypedExprs}
 use Rattle.type_check.specs.TypedExpr as tree
 use Rattle.type_check.specs.TypedExprView.{ty_of, stmts_of}
-use Rattle.type_check.specs.Typing.{Typed, fit, asked, literal, named, negated, is_bare, order_of, operands_of, operated, assigned, updated, callee_of, first_of, rest_of, called, parts_of, tupled, parted, selected, Maker, maker_of, next_field, fields_behind, no_field_left, literal_made, Opened, opened, declared, behind, typed_stmt, without_last, closed, given, chosen, panicked, returned, bare_return, endless, in_a_loop, invariant_of, typed}
+use Rattle.type_check.specs.Typing.{Typed, fit, asked, literal, named, negated, is_bare, order_of, operands_of, operated, assigned, updated, callee_of, first_of, rest_of, params_of, called, parts_of, tupled, parted, selected, next_field, fields_behind, no_field_left, literal_made, Opened, opened, declared, behind, typed_stmt, without_last, closed, given, chosen, panicked, returned, bare_return, endless, in_a_loop, invariant_of, typed}
 use Rattle.type_check.specs.WellTyped.{unit, is_arithmetic}
-use Rattle.type_check.specs.Written.{as_name, name_alone, step_of}
+use Rattle.type_check.specs.Written.{step_of}
 
 -- what is asked: a part in its setting and scope, at an expected type if there is one, and from its typed tree on what else; or nothing
 -- more
@@ -64,18 +66,18 @@ each_stmt σ Γ (E.with_stmt s kind e ss) k = first (step_of σ.types kind) λ p
 abbrev pub rule : Setting → List Variable → Expr → Option Ty → Asks
 rule σ Γ (E.integer s z k) t = comes (literal t s z k)
 rule σ Γ (E.truth s b) t = comes (fit t s (tree.truth bool s b))
-rule σ Γ (E.path s p) t = comes (named Γ t s (name_alone p.node))
+rule σ Γ (E.path s p) t = comes (named σ.types Γ t s p.node)
 rule σ Γ (E.unary s Neg o e) t = part σ Γ e t λ a. comes (negated t s o (span_of e) a)
 rule σ Γ (E.unary s Not o e) t = part σ Γ e (Some bool) λ a. comes (fit t s (tree.denied bool s a))
 rule σ Γ (E.binary s op o a b) t = operands_in σ (order_of (is_arithmetic op) t (is_bare a) (is_bare b)) Γ a b λ p. comes (operated t s o (span_of a) op p)
 rule σ Γ (E.lazy s op a b) t = part σ Γ a (Some bool) λ x. part σ Γ b (Some bool) λ y. comes (fit t s (tree.lazy bool s op x y))
 rule σ Γ (E.assign s l e) t = part σ Γ l None λ a. part σ Γ e (Some (ty_of a)) λ b. comes (assigned Γ t s (span_of l) a b)
 rule σ Γ (E.update s op o l e) t = part σ Γ l None λ a. part σ Γ e (Some (ty_of a)) λ b. comes (updated Γ t s o (span_of l) op a b)
-rule σ Γ (E.call s f es) t = first (callee_of σ.headings Γ s (as_name f)) λ g. each_arg σ Γ es g.signature.params λ as'. comes (called t s g as')
+rule σ Γ (E.call s f es) t = first (callee_of σ Γ t s f) λ g. each_arg σ Γ es (params_of g) λ as'. comes (called t s g as')
 rule σ Γ (E.tuple s es) t = each_arg σ Γ es (parts_of t) λ as'. comes (tupled t s as')
 rule σ Γ (E.part s e k) t = part σ Γ e None λ a. comes (parted σ.types t s k a)
 rule σ Γ (E.field s e x []) t = part σ Γ e None λ a. comes (selected σ.types t s x a)
-rule σ Γ (E.literal s p fs) t = first (maker_of σ.types t s (name_alone p.node)) λ m. each_field σ Γ s m m.fields fs λ as'. comes (literal_made t s m as')
+rule σ Γ (E.literal s p fs) t = first (maker_of σ.types Named t s p.node) λ m. each_field σ Γ s m m.fields fs λ as'. comes (literal_made t s m as')
 rule σ Γ (E.block s ss) t = each_stmt σ Γ ss λ o. comes (closed t s (without_last o.stmts))
 rule σ Γ (E.block_with s ss e) t = each_stmt σ Γ ss λ o. part σ o.scope e t λ a. comes (closed t s (stmts_of o.stmts (tree.last a)))
 rule σ Γ (E.branch s None c a) t = part σ Γ c (Some bool) λ x. part σ Γ a (Some unit) λ y. comes (fit t s (tree.branch unit s x y))

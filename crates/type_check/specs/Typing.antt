@@ -1,7 +1,7 @@
 -- Which variable each name means and which type each expression has, in the form of bidirectional typing (Pierce and Turner
 -- 2000): without an expected type an expression gives one, with one it fits it (Rust Reference, "Operator expressions",
 -- "Call expressions", "Tuple expressions", "Tuple indexing expressions", "Field access expressions", "Struct expressions", "Block expressions", "if expressions", "Predicate loops", "Infinite loops", "break expressions", "continue expressions", "return expressions", "Diverging expressions"). What has no row is not built.
-use Rattle.std.specs.Prelude.{ℕ, zero, suc, ℤ, pos, ◌==◌, ◌++◌, Bool, true, false, List, [], ◌∷◌, length, Option, Some, None, Result, Ok, Err, slice_get, if◌then◌else◌}
+use Rattle.std.specs.Prelude.{ℕ, zero, suc, ℤ, pos, ◌==◌, ◌++◌, Bool, true, false, List, [], ◌∷◌, length, map, Option, Some, None, Result, Ok, Err, slice_get, if◌then◌else◌}
 use Rattle.text_core.specs.declared.name.Name.{Name}
 use Rattle.text_core.specs.declared.refusal.Cause.{Cause}
 use Rattle.text_core.specs.declared.refusal.Cause.TheVariants as cause
@@ -13,11 +13,11 @@ use Rattle.source_kinds.specs.declared.kinds.IntKind.TheVariants.{I32}
 use Rattle.source_kinds.specs.Range.{fits}
 use Rattle.logic_term.specs.declared.declaration.AdtDecl.{AdtDecl}
 use Rattle.logic_term.specs.declared.declaration.FieldDecl.{FieldDecl}
-use Rattle.logic_term.specs.declared.declaration.VariantDecl.{VariantDecl}
-use Rattle.logic_term.specs.declared.kinds.AdtId.{AdtId}
+use Rattle.logic_term.specs.declared.declaration.VariantKind.TheVariants.{Named, Numbered, Unit as Alone}
 use Rattle.logic_term.specs.declared.kinds.Ctor.TheVariants.{Tuple, Variant}
 use Rattle.logic_term.specs.Ty.{Ty, Tys, int, bool, tuple, adt, boxed, no_tys, and_ty}
-use Rattle.rs_types.specs.Table.{number_of}
+use Rattle.logic_term.specs.TyView.{tys_of}
+use Rattle.source_trees.specs.declared.path.PathNode.{PathNode}
 use Rattle.source_trees.specs.declared.attribute.Attribute.{Attribute}
 use Rattle.source_trees.specs.declared.attribute.AttributeNode.{AttributeNode}
 use Rattle.source_trees.specs.declared.attribute.AttributeNode.TheVariants as A
@@ -33,7 +33,6 @@ use Rattle.source_trees.specs.Expr.{Expr}
 use Rattle.source_trees.specs.ExprView.{span_of}
 use Rattle.type_check.specs.declared.assertion.Assertion.{Assertion}
 use Rattle.type_check.specs.declared.heading.Callee.{Callee}
-use Rattle.type_check.specs.declared.heading.Heading.{Heading}
 use Rattle.type_check.specs.declared.operands.Operands.{Operands}
 use Rattle.type_check.specs.declared.operands.Order.{Order}
 use Rattle.type_check.specs.declared.operands.Order.TheVariants as order
@@ -43,7 +42,8 @@ use Rattle.type_check.specs.declared.scope.Variable.{Variable}
 use Rattle.type_check.specs.declared.statements.Step.{Step}
 use Rattle.type_check.specs.declared.typed.TypedStmt.{TypedStmt}
 use Rattle.type_check.specs.Answers.{◌>>=◌, unknown_name, double_name, mismatch, unbuilt, not_mutable, wanted, gather}
-use Rattle.type_check.specs.Functions.{callee}
+use Rattle.type_check.specs.Constructors.{Maker, maker_of}
+use Rattle.type_check.specs.Functions.{function_from}
 use Rattle.type_check.specs.Breaks.{breaks}
 use Rattle.type_check.specs.Leaves.{leaves}
 use Rattle.type_check.specs.Scope.{found}
@@ -53,9 +53,9 @@ use Rattle.type_check.specs.TypedExpr.{TypedExpr, TypedStmts, TypedExprs}
 use Rattle.type_check.specs.TypedExpr as tree
 use Rattle.type_check.specs.TypedExprView.{ty_of, stmt_of, stmts_of}
 use Rattle.type_check.specs.DeclaredTypes.{numbered}
-use Rattle.type_check.specs.Types.{same_ty, is_signed_ty, is_built}
+use Rattle.type_check.specs.Types.{same_ty, is_signed_ty, is_built, are_built}
 use Rattle.type_check.specs.WellTyped.{unit, is_arithmetic, operation_ty, nth_part, struct_fields, field_at, tys_of_exprs}
-use Rattle.type_check.specs.Written.{as_name, name_alone, step_of}
+use Rattle.type_check.specs.Written.{name_alone, step_of}
 
 abbrev pub Typed : Type 0
 Typed = Result TypedExpr SourceError
@@ -65,7 +65,7 @@ unfoldable pub fit : Option Ty → Span → TypedExpr → Typed
 fit None s e = Ok e
 fit (Some t) s e = wanted (same_ty (ty_of e) t) s e
 
--- ---- literals and names
+-- ---- literals
 
 -- the type of an integer: that at its end, else the expected one, else i32
 abbrev pub literal_kind : Option IntKind → Option Ty → Option IntKind
@@ -80,18 +80,6 @@ literal_of t s z (Some k) = if fits k z then fit t s (tree.integer (int k) s z k
 
 unfoldable pub literal : Option Ty → Span → ℤ → Option IntKind → Typed
 literal t s z k = literal_of t s z (literal_kind k t)
-
-abbrev pub variable_of : Option Ty → Span → Option Found → Typed
-variable_of t s None = Err (unknown_name s)
-variable_of t s (Some v) = fit t s (tree.variable v.ty s v.place)
-
-unfoldable pub variable : List Variable → Option Ty → Span → Name → Typed
-variable Γ t s x = variable_of t s (found x Γ)
-
--- a path that is a name alone
-abbrev pub named : List Variable → Option Ty → Span → Option Segment → Typed
-named Γ t s None = Err (unbuilt s)
-named Γ t s (Some x) = variable Γ t s x.name
 
 -- ---- operators
 
@@ -173,33 +161,6 @@ is_updated op _ = false
 unfoldable pub updated : List Variable → Option Ty → Span → Span → Span → BinaryOp → (target value : TypedExpr) → Typed
 updated Γ t s o l op a e = if is_updated op (ty_of a) then writing Γ t s l a (tree.update unit o op a e) else Err (mismatch l)
 
--- ---- calls
-
-abbrev pub known : Span → Option Callee → Result Callee SourceError
-known s None = Err (unknown_name s)
-known s (Some f) = Ok f
-
--- what is called by a name alone; the span is that of the call
-abbrev pub callee_of : List Heading → List Variable → Span → Option Segment → Result Callee SourceError
-callee_of σ Γ s None = Err (unbuilt s)
-callee_of σ Γ s (Some x) = known x.span (callee σ Γ x.name)
-
-abbrev pub how_many : TypedExprs → ℕ
-how_many tree.none = 0
-how_many (tree.more e es) = suc (how_many es)
-
-abbrev pub first_of : List Ty → Option Ty
-first_of [] = None
-first_of (t ∷ ts) = Some t
-
-abbrev pub rest_of : List Ty → List Ty
-rest_of [] = []
-rest_of (t ∷ ts) = ts
-
-unfoldable pub called : Option Ty → Span → Callee → TypedExprs → Typed
-called t s f es =
-    if how_many es == length f.signature.params then fit t s (tree.call f.signature.answer s f.place es) else Err (mismatch s)
-
 -- ---- tuples
 
 abbrev pub listed : Tys → List Ty
@@ -264,44 +225,6 @@ selected ds t s x a = part_by ds t s x.span a (field_of ds x.name (ty_of a))
 
 -- ---- struct literals
 
--- the struct that a literal makes, at types for its parameters, and its fields
-pub record Maker : Type 0 where
-  pub number : AdtId
-  pub arguments : Tys
-  pub fields : List FieldDecl
-
--- the types for the parameters: so far those of the expected type, where there are parameters
-abbrev pub arguments_from : ℕ → Option Ty → Option Tys
-arguments_from n (Some (adt d rs ts)) = if d.0 == n then Some ts else None
-arguments_from n _ = None
-
-abbrev pub arguments_for : ℕ → ℕ → Option Ty → Option Tys
-arguments_for zero n t = Some no_tys
-arguments_for (suc k) n t = arguments_from n t
-
-abbrev pub maker_by : List AdtDecl → Span → AdtId → List FieldDecl → Option Tys → Result Maker SourceError
-maker_by ds s d fs None = Err (unbuilt s)
-maker_by ds s d fs (Some ts) = if is_built ds (adt d [] ts) then Ok (record { number = d; arguments = ts; fields = fs }) else Err (unbuilt s)
-
--- the span is that of the literal
-abbrev pub maker_first : List AdtDecl → Option Ty → Span → Segment → ℕ → AdtDecl → Option VariantDecl → Result Maker SourceError
-maker_first ds t s x n d None = Err (unknown_name x.span)
-maker_first ds t s x n d (Some v) = maker_by ds s (record { 0 = n }) v.fields (arguments_for d.params n t)
-
--- a struct by its name, and no other type
-abbrev pub maker_if : List AdtDecl → Option Ty → Span → Segment → ℕ → Option AdtDecl → Result Maker SourceError
-maker_if ds t s x n None = Err (unknown_name x.span)
-maker_if ds t s x n (Some d) = if d.is_struct then maker_first ds t s x n d (slice_get d.variants 0) else Err (unknown_name x.span)
-
-abbrev pub maker_at : List AdtDecl → Option Ty → Span → Segment → Option ℕ → Result Maker SourceError
-maker_at ds t s x None = Err (unknown_name x.span)
-maker_at ds t s x (Some n) = maker_if ds t s x n (slice_get ds n)
-
--- what a literal makes, whose path is a name alone; the span is that of the literal
-abbrev pub maker_of : List AdtDecl → Option Ty → Span → Option Segment → Result Maker SourceError
-maker_of ds t s None = Err (unbuilt s)
-maker_of ds t s (Some x) = maker_at ds t s x (number_of x.name.0 ds)
-
 abbrev pub has_field : Name → List FieldDecl → Bool
 has_field x [] = false
 has_field x (f ∷ fs) = if f.name.0 == x.0 then true else has_field x fs
@@ -328,7 +251,85 @@ no_field_left s [] = Ok tree.none
 no_field_left s (f ∷ fs) = Err (mismatch s)
 
 unfoldable pub literal_made : Option Ty → Span → Maker → TypedExprs → Typed
-literal_made t s m es = fit t s (tree.make (adt m.number [] m.arguments) s (Variant m.number 0) es)
+literal_made t s m es = fit t s (tree.make (adt m.number [] m.arguments) s (Variant m.number m.variant) es)
+
+-- ---- names
+
+-- the variable that a path is, if it is a name alone
+abbrev pub local_of : List Variable → Option Segment → Option Found
+local_of Γ None = None
+local_of Γ (Some x) = found x.name Γ
+
+-- a value without fields; the span is that of the path
+abbrev pub made_alone : Option Ty → Span → Maker → Typed
+made_alone t s m = no_field_left s m.fields >>= literal_made t s m
+
+abbrev pub named_by : List AdtDecl → Option Ty → Span → PathNode → Option Found → Typed
+named_by ds t s p (Some v) = fit t s (tree.variable v.ty s v.place)
+named_by ds t s p None = maker_of ds Alone t s p >>= made_alone t s
+
+-- a path: a variable in scope, else what makes a value without fields
+unfoldable pub named : List AdtDecl → List Variable → Option Ty → Span → PathNode → Typed
+named ds Γ t s p = named_by ds t s p (local_of Γ (name_alone p))
+
+-- ---- calls
+
+-- what is called
+pub data Called : Type 0 where
+  of_function : Callee → Called
+  of_maker : Maker → Called
+
+abbrev pub field_tys : Maker → List Ty
+field_tys m = map (field_at m.arguments) m.fields
+
+-- the span is that of the call
+abbrev pub maker_called : List AdtDecl → Span → Maker → Result Called SourceError
+maker_called ds s m = if are_built ds (tys_of (field_tys m)) then Ok (of_maker m) else Err (unbuilt s)
+
+abbrev pub constructor_called : List AdtDecl → Option Ty → Span → PathNode → Result Called SourceError
+constructor_called ds t s p = maker_of ds Numbered t s p >>= maker_called ds s
+
+abbrev pub or_constructor : List AdtDecl → Option Ty → Span → PathNode → Option Callee → Result Called SourceError
+or_constructor ds t s p (Some f) = Ok (of_function f)
+or_constructor ds t s p None = constructor_called ds t s p
+
+-- a variable of the name hides a function and a constructor
+abbrev pub unless_local : Span → Option Found → Result Called SourceError → Result Called SourceError
+unless_local s None m = m
+unless_local s (Some v) m = Err (unknown_name s)
+
+abbrev pub called_by : Setting → List Variable → Option Ty → Span → PathNode → Option Segment → Result Called SourceError
+called_by σ Γ t s p None = constructor_called σ.types t s p
+called_by σ Γ t s p (Some x) = unless_local x.span (found x.name Γ) (or_constructor σ.types t s p (function_from 0 x.name σ.headings))
+
+-- a function, else what makes a value of its arguments
+unfoldable pub callee_of : Setting → List Variable → Option Ty → Span → Expr → Result Called SourceError
+callee_of σ Γ t s (E.path r p) = called_by σ Γ t s p.node (name_alone p.node)
+callee_of σ Γ t s f = Err (unbuilt s)
+
+-- the types of its parameters
+abbrev pub params_of : Called → List Ty
+params_of (of_function f) = f.signature.params
+params_of (of_maker m) = field_tys m
+
+abbrev pub how_many : TypedExprs → ℕ
+how_many tree.none = 0
+how_many (tree.more e es) = suc (how_many es)
+
+abbrev pub first_of : List Ty → Option Ty
+first_of [] = None
+first_of (t ∷ ts) = Some t
+
+abbrev pub rest_of : List Ty → List Ty
+rest_of [] = []
+rest_of (t ∷ ts) = ts
+
+abbrev pub call_of : Option Ty → Span → Called → TypedExprs → Typed
+call_of t s (of_function f) es = fit t s (tree.call f.signature.answer s f.place es)
+call_of t s (of_maker m) es = literal_made t s m es
+
+unfoldable pub called : Option Ty → Span → Called → TypedExprs → Typed
+called t s f es = if how_many es == length (params_of f) then call_of t s f es else Err (mismatch s)
 
 -- ---- blocks
 
@@ -443,7 +444,7 @@ abbrev mutual
   pub typed : Setting → List Variable → Expr → Option Ty → Typed
   typed σ Γ (E.integer s z k) t = literal t s z k
   typed σ Γ (E.truth s b) t = fit t s (tree.truth bool s b)
-  typed σ Γ (E.path s p) t = named Γ t s (name_alone p.node)
+  typed σ Γ (E.path s p) t = named σ.types Γ t s p.node
   typed σ Γ (E.unary s Neg o e) t = do
     a ← typed σ Γ e t
     negated t s o (span_of e) a
@@ -466,8 +467,8 @@ abbrev mutual
     b ← typed σ Γ e (Some (ty_of a))
     updated Γ t s o (span_of l) op a b
   typed σ Γ (E.call s f es) t = do
-    g ← callee_of σ.headings Γ s (as_name f)
-    as' ← typed_args σ Γ es g.signature.params
+    g ← callee_of σ Γ t s f
+    as' ← typed_args σ Γ es (params_of g)
     called t s g as'
   typed σ Γ (E.tuple s es) t = do
     as' ← typed_args σ Γ es (parts_of t)
@@ -479,7 +480,7 @@ abbrev mutual
     a ← typed σ Γ e None
     selected σ.types t s x a
   typed σ Γ (E.literal s p fs) t = do
-    m ← maker_of σ.types t s (name_alone p.node)
+    m ← maker_of σ.types Named t s p.node
     as' ← typed_fields σ Γ s m m.fields fs
     literal_made t s m as'
   typed σ Γ (E.block s ss) t = do

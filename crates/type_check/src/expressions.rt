@@ -6,16 +6,17 @@ ghost use Rattle.type_check.specs.Chains.{behind};
 ghost use Rattle.type_check.specs.Literals.{made_by};
 ghost use Rattle.type_check.specs.Setting.{setting_of};
 ghost use Rattle.type_check.specs.TypedExprView.{exprs_of};
-ghost use Rattle.type_check.specs.Typing.{callee_of, is_bare, opened, operands, order_of, typed, typed_args, typed_fields, typed_statement, typed_stmts};
+ghost use Rattle.type_check.specs.Typing.{is_bare, opened, operands, order_of, typed, typed_args, typed_fields, typed_statement, typed_stmts};
 ghost use Rattle.type_check.specs.WellTyped.{is_arithmetic};
-ghost use Rattle.type_check.specs.Written.{as_name};
 
+use crate::calling::{callee_of, params_of, with_arguments};
 use crate::chain::{Descent, Frame, descend, finish, right_of, second_ty};
 use crate::elaborate::invariants_of;
-use crate::heading::{Callee, Heading, find_callee};
-use crate::literals::{Maker, literal_made, maker_of, next_field, no_field_left};
+use crate::literals::{literal_made, next_field, no_field_left};
+use crate::making::{Maker, maker_of};
+use crate::naming::named;
 use crate::operands::{Operands, Order};
-use crate::refusal::{unbuilt, unknown_name};
+use crate::refusal::unbuilt;
 use crate::scope::Variable;
 use crate::selecting::{parted, selected};
 use crate::setting::Setting;
@@ -24,12 +25,12 @@ use crate::tuples::{parts_of, tupled};
 use crate::typed::{TypedExpr, TypedNode, TypedStmt};
 use crate::types::is_arithmetic;
 use crate::typing::{
-    assigned, bare_return, branch, called, choice, denied, endless, given_by, given_ty, in_a_loop,
-    is_bare, lazy, literal, named, negated, operated, order_of, panicked, param_ty, repeat,
-    returned, span_of, spans_at, truth, updated,
+    assigned, bare_return, branch, choice, denied, endless, given_by, given_ty, in_a_loop, is_bare,
+    lazy, literal, negated, operated, order_of, panicked, param_ty, repeat, returned, span_of,
+    spans_at, truth, updated,
 };
-use crate::written::{as_name, name_alone, step_of};
-use logic_term::Ty;
+use crate::written::step_of;
+use logic_term::{Ty, VariantKind};
 use source_kinds::{BinaryOp, LazyOp};
 use source_trees::{
     Attribute, Expr, ExprNode, FieldExpr, Number, Path, Segment, Stmt, TypeTree, UnaryOp,
@@ -97,7 +98,14 @@ fn type_form(
     match &*e.node {
         ExprNode::Int(number, kind) => literal(alloc, expected, whole, *number, *kind),
         ExprNode::Truth(holds) => truth(alloc, expected, whole, *holds),
-        ExprNode::Path(path) => named(alloc, scope.as_slice(), expected, whole, name_alone(path)),
+        ExprNode::Path(path) => named(
+            alloc,
+            setting.types,
+            scope.as_slice(),
+            expected,
+            whole,
+            path,
+        ),
         ExprNode::Unary(op, at, a) => type_unary(
             alloc, setting, scope, expected, whole, *op, *at, a,
         ),
@@ -324,10 +332,10 @@ fn type_call(
     ensures answers { Answers result (typed (setting_of setting.now) scope.old.items (E.call whole f.now (written_exprs args.now)) expected.now) }
     ensures kept { OnOk result (scope.new.items ≡ scope.old.items) }
 {
-    let callee = callee_of(alloc, setting.headings, scope.as_slice(), whole, as_name(f))?;
-    let params = callee.signature.params.as_slice();
-    let args = type_args(alloc, setting, scope, args, params)?;
-    called(alloc, expected, whole, callee, args)
+    let callee = callee_of(alloc, setting, scope.as_slice(), expected, whole, f)?;
+    let params = params_of(alloc, &callee)?;
+    let args = type_args(alloc, setting, scope, args, params.as_slice())?;
+    with_arguments(alloc, expected, whole, callee, params.len(), args)
 }
 
 /// A block without a last expression.
@@ -617,7 +625,14 @@ fn type_literal(
     ensures answers { Answers result (typed (setting_of setting.now) scope.old.items (E.literal whole path.now (written_fields fields.now)) expected.now) }
     ensures kept { OnOk result (scope.new.items ≡ scope.old.items) }
 {
-    let maker = maker_of(alloc, setting.types, expected, whole, name_alone(path))?;
+    let maker = maker_of(
+        alloc,
+        setting.types,
+        VariantKind::Named,
+        expected,
+        whole,
+        path,
+    )?;
     let parts = type_fields(alloc, setting, scope, whole, &maker, fields)?;
     literal_made(alloc, expected, whole, maker, parts)
 }
@@ -704,23 +719,4 @@ fn type_statement(
     declare(alloc, scope, step.declares, &value)?;
     let binds = step.declares.is_some();
     Ok(TypedStmt { binds, value })
-}
-
-/// What is called by this name alone; the span is that of the call.
-fn callee_of(
-    alloc: Global,
-    headings: &[Heading],
-    scope: &[Variable],
-    span: Span,
-    name: Option<Segment>,
-) -> Result<Callee, PassError>
-    ensures { Answers result (callee_of headings.now scope.now span name) }
-{
-    let Some(name) = name else {
-        return Err(unbuilt(span));
-    };
-    match find_callee(alloc, name.name, headings, scope)? {
-        Some(callee) => Ok(callee),
-        None => Err(unknown_name(name.span)),
-    }
 }

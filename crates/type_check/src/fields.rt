@@ -5,10 +5,12 @@ ghost use Rattle.source_trees.specs.TypeTreeView.{span_of as type_span};
 ghost use Rattle.rs_types.specs.Bounded.{params_from};
 ghost use Rattle.rs_types.specs.Meant.{meant, scope_of};
 ghost use Rattle.rs_types.specs.declared.written.Elision.TheVariants.{Refused};
-ghost use Rattle.type_check.specs.DeclaredTypes.{type_or_unit, field_name, field_decl, fields_from, parts_from, struct_fields, variant_fields, variants_of, regions_from, own_type, item_scope, declared_type, takes, types_from, first_number, heads, declared_types, numbered, lifetimes_of, parameters_of};
+ghost use Rattle.type_check.specs.DeclaredTypes.{struct_kind, variant_kind, type_or_unit, field_name, field_decl, fields_from, parts_from, struct_fields, variant_fields, variants_of, regions_from, own_type, item_scope, declared_type, takes, types_from, first_number, heads, declared_types, numbered, lifetimes_of, parameters_of};
 
 use crate::heads::{decl_of, lifetimes_of, parameters_of, prelude, put_some};
-use logic_term::{AdtDecl, AdtId, CompoundTy, FieldDecl, Region, Ty, TyNode, VariantDecl};
+use logic_term::{
+    AdtDecl, AdtId, CompoundTy, FieldDecl, Region, Ty, TyNode, VariantDecl, VariantKind,
+};
 use rs_types::{AdtTable, Elision, TypeScope, meant};
 use source_trees::{
     Enum, Field, Fields, GenericParam, Item, ItemNode, Segment, Struct, TypeNode, TypeTree,
@@ -187,6 +189,28 @@ fn variant_fields(
     }
 }
 
+/// How the fields of a struct are written.
+fn struct_kind(fields: &Fields) -> VariantKind
+    ensures { result ≡ struct_kind fields.now }
+{
+    match fields {
+        Fields::Unit => VariantKind::Unit,
+        Fields::Tuple(_) => VariantKind::Numbered,
+        Fields::Named(_) => VariantKind::Named,
+    }
+}
+
+/// How the fields of a variant are written.
+fn variant_kind(fields: &VariantFields) -> VariantKind
+    ensures { result ≡ variant_kind fields.now }
+{
+    match fields {
+        VariantFields::Unit => VariantKind::Unit,
+        VariantFields::Tuple(_) => VariantKind::Numbered,
+        VariantFields::Named(_) => VariantKind::Named,
+    }
+}
+
 fn variants_of(
     alloc: Global,
     scope: &TypeScope<'_>,
@@ -199,6 +223,7 @@ fn variants_of(
         let fields = variant_fields(alloc, scope, &variant.fields)?;
         made.push(VariantDecl {
             name: variant.name.name,
+            kind: variant_kind(&variant.fields),
             fields,
         })?;
     }
@@ -214,7 +239,7 @@ fn struct_variant(
     number: u32,
     it: &Struct,
 ) -> Result<Items<VariantDecl>, NoMemory>
-    ensures { IfOk result (λ v. v ≡ record { name = it.now.name.name; fields = struct_fields (item_scope heads.now number it.now.generics) it.now.fields } ∷ []) }
+    ensures { IfOk result (λ v. v ≡ record { name = it.now.name.name; kind = struct_kind it.now.fields; fields = struct_fields (item_scope heads.now number it.now.generics) it.now.fields } ∷ []) }
 {
     let names = names_of(alloc, number, it.generics.as_slice())?;
     let scope = TypeScope {
@@ -228,6 +253,7 @@ fn struct_variant(
     let mut made = Items::new(alloc);
     made.push(VariantDecl {
         name: it.name.name,
+        kind: struct_kind(&it.fields),
         fields,
     })?;
     Ok(made)

@@ -1,8 +1,7 @@
 ghost use Rattle.std.specs.Prelude.{◌≡◌, IfOk};
-ghost use Rattle.type_check.specs.Functions.{callee, function_from};
+ghost use Rattle.type_check.specs.Functions.{function_from};
 
 use crate::program::Signature;
-use crate::scope::{Variable, find_variable};
 use logic_term::copy_types;
 use std::alloc::Global;
 use text_core::{Items, Name, NoMemory};
@@ -36,7 +35,7 @@ impl Signature {
 }
 
 /// The function of the name.
-fn find_function(
+pub(crate) fn find_function(
     alloc: Global,
     name: Name,
     headings: &[Heading],
@@ -52,20 +51,4 @@ fn find_function(
         place = u32::checked_add(place, 1).ok_or(NoMemory)?;
     }
     Ok(None)
-}
-
-/// The function that a call by the name calls. A variable of the name hides it.
-#[tactic(auto, unfolding(crate::specs::Functions::callee))]
-pub(crate) fn find_callee(
-    alloc: Global,
-    name: Name,
-    headings: &[Heading],
-    scope: &[Variable],
-) -> Result<Option<Callee>, NoMemory>
-    ensures { IfOk result (λ o. o ≡ callee headings.now scope.now name) }
-{
-    match find_variable(alloc, name, scope)? {
-        Some(_) => Ok(None),
-        None => find_function(alloc, name, headings),
-    }
 }

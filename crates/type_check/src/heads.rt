@@ -4,7 +4,7 @@ ghost use Rattle.type_check.specs.Answers.{with_some};
 ghost use Rattle.type_check.specs.DeclaredTypes.{lifetime_name, parameter_name, lifetimes_of, parameters_of, has_copy, is_copy, derives_copy, decl_of, head, is_option, declares_option, option_type, prelude, heads};
 
 use crate::lists::push_some;
-use logic_term::{AdtDecl, FieldDecl, Ty, TyNode, VariantDecl};
+use logic_term::{AdtDecl, FieldDecl, Ty, TyNode, VariantDecl, VariantKind};
 use rs_types::AdtTable;
 use source_trees::{Attribute, AttributeNode, GenericNode, GenericParam, Item, ItemNode, Segment};
 use std::alloc::Global;
@@ -194,9 +194,14 @@ fn option_type(alloc: Global) -> Result<AdtDecl, NoMemory>
     let mut variants = Items::new(alloc);
     variants.push(VariantDecl {
         name: NONE,
+        kind: VariantKind::Unit,
         fields: Items::new(alloc),
     })?;
-    variants.push(VariantDecl { name: SOME, fields })?;
+    variants.push(VariantDecl {
+        name: SOME,
+        kind: VariantKind::Numbered,
+        fields,
+    })?;
     Ok(AdtDecl {
         name: OPTION,
         regions: 0,

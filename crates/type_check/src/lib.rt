@@ -3,6 +3,7 @@
 
 mod assertion;
 mod breaking;
+mod calling;
 mod chain;
 mod checking;
 mod checks;
@@ -19,6 +20,8 @@ mod leaving;
 mod lists;
 mod literals;
 mod logic;
+mod making;
+mod naming;
 mod operands;
 mod program;
 mod refusal;

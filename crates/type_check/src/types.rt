@@ -119,7 +119,7 @@ fn is_compound_built(decls: &[AdtDecl], parts: &CompoundTy) -> bool
 
 #[cycle(is_built)]
 #[tactic(auto, using(crate::proofs::BuiltTypes::each_smaller, crate::proofs::BuiltTypes::built_at, crate::proofs::BuiltTypes::unbuilt_at))]
-fn are_built(decls: &[AdtDecl], types: &[Ty]) -> bool
+pub(crate) fn are_built(decls: &[AdtDecl], types: &[Ty]) -> bool
     ensures { result ≡ are_built decls.now (tys_of types.now) }
 {
     for i in 0..types.len() {

@@ -4,23 +4,22 @@ ghost use Rattle.source_trees.specs.ExprView.{span_of};
 ghost use Rattle.type_check.specs.Answers.{Answers};
 ghost use Rattle.type_check.specs.TypedExpr as tree;
 ghost use Rattle.type_check.specs.TypedExprView.{ty_of, typed_of, exprs_of};
-ghost use Rattle.type_check.specs.Typing.{fit, order_of, literal_kind, literal, variable, negated, is_bare, named, operated, if_mutable, may_write, assigned, updated, called, is_updated, asked, given, choice_ty, chosen, panicked, returned, bare_return, endless, in_a_loop};
+ghost use Rattle.type_check.specs.Typing.{fit, order_of, literal_kind, literal, negated, is_bare, operated, if_mutable, may_write, assigned, updated, is_updated, asked, given, choice_ty, chosen, panicked, returned, bare_return, endless, in_a_loop};
 ghost use Rattle.type_check.specs.WellTyped.{unit};
 
 use crate::assertion::Assertion;
 use crate::breaking::breaks;
-use crate::heading::Callee;
 use crate::leaving::leaves;
 use crate::operands::{Operands, Order};
-use crate::refusal::{mismatch, not_mutable, unbuilt, unknown_name};
-use crate::scope::{Found, Variable, find_variable};
+use crate::refusal::{mismatch, not_mutable};
+use crate::scope::Variable;
 use crate::typed::{TypedExpr, TypedNode};
 use crate::types::{fits, is_signed_ty, is_updated, operation_ty, same_ty};
 use logic_term::{Ty, TyNode};
 use source_kinds::{BinaryOp, IntKind, LazyOp};
-use source_trees::{Expr, ExprNode, PanicMacro, Segment};
+use source_trees::{Expr, ExprNode, PanicMacro};
 use std::alloc::Global;
-use text_core::{Cause, Name, NoMemory, PassError, Span};
+use text_core::{Cause, NoMemory, PassError, Span};
 
 /// From the expression's first token to its last.
 pub(crate) fn span_of(e: &Expr) -> Span
@@ -96,42 +95,6 @@ pub(crate) fn literal(
             fit(alloc, expected, span, ty, span, node)
         }
         _ => Err(mismatch(span)),
-    }
-}
-
-#[tactic(auto, unfolding(crate::specs::Typing::variable))]
-fn variable(
-    alloc: Global,
-    scope: &[Variable],
-    expected: &Option<Ty>,
-    span: Span,
-    name: Name,
-) -> Result<TypedExpr, PassError>
-    ensures { Answers result (variable scope.now expected.now span name) }
-{
-    match find_variable(alloc, name, scope)? {
-        Some(found) => {
-            let Found { place, ty } = found;
-            let node = TypedNode::Variable(place);
-            fit(alloc, expected, span, ty, span, node)
-        }
-        None => Err(unknown_name(span)),
-    }
-}
-
-/// A path that is a name alone.
-pub(crate) fn named(
-    alloc: Global,
-    scope: &[Variable],
-    expected: &Option<Ty>,
-    span: Span,
-    name: Option<Segment>,
-) -> Result<TypedExpr, PassError>
-    ensures { Answers result (named scope.now expected.now span name) }
-{
-    match name {
-        None => Err(unbuilt(span)),
-        Some(name) => variable(alloc, scope, expected, span, name.name),
     }
 }
 
@@ -253,24 +216,6 @@ pub(crate) fn updated(
     let node = TypedNode::Update(op, target, value);
     let e = fit(alloc, expected, spans.whole, ty, span, node)?;
     if_mutable(mutable, spans.first, e)
-}
-
-#[tactic(auto, unfolding(crate::specs::Typing::called), using(crate::proofs::Arguments::how_many_are))]
-pub(crate) fn called(
-    alloc: Global,
-    expected: &Option<Ty>,
-    span: Span,
-    callee: Callee,
-    args: Vec<TypedExpr>,
-) -> Result<TypedExpr, PassError>
-    ensures { Answers result (called expected.now span callee (exprs_of args.items)) }
-{
-    if args.len() != callee.signature.params.len() {
-        return Err(mismatch(span));
-    }
-    let node = TypedNode::Call(callee.place, args);
-    let ty = callee.signature.answer;
-    fit(alloc, expected, span, ty, span, node)
 }
 
 pub(crate) fn truth(

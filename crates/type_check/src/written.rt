@@ -1,7 +1,7 @@
 //! Names and types as they are written, and what `let` and parameters declare.
 ghost use Rattle.std.specs.Prelude.{◌≡◌};
 ghost use Rattle.type_check.specs.Answers.{Answers};
-ghost use Rattle.type_check.specs.Written.{name_alone, as_name, written_type, written_or_none, answer_ty, param_of, name_or, declared_by, step_of};
+ghost use Rattle.type_check.specs.Written.{name_alone, written_type, written_or_none, answer_ty, param_of, name_or, declared_by, step_of};
 
 use crate::refusal::unbuilt;
 use crate::scope::{Declared, Variable};
@@ -9,9 +9,7 @@ use crate::statements::Step;
 use crate::types::is_built;
 use logic_term::Ty;
 use rs_types::{AdtTable, Elision, TypeScope, meant};
-use source_trees::{
-    Expr, ExprNode, Param, ParamNode, Pat, PatNode, Path, PathNode, Segment, StmtKind, TypeTree,
-};
+use source_trees::{Param, ParamNode, Pat, PatNode, Path, PathNode, Segment, StmtKind, TypeTree};
 use std::alloc::Global;
 use text_core::{PassError, Span};
 
@@ -26,17 +24,6 @@ pub(crate) fn name_alone(path: &Path) -> Option<Segment>
         PathNode::Names(first, others, types) if others.is_empty() && types.is_empty() => {
             Some(*first)
         }
-        _ => None,
-    }
-}
-
-/// The name that the expression is, if it is one alone.
-#[tactic(auto, unfolding(crate::specs::Written::as_name))]
-pub(crate) fn as_name(e: &Expr) -> Option<Segment>
-    ensures { result ≡ as_name e.now }
-{
-    match &*e.node {
-        ExprNode::Path(path) => name_alone(path),
         _ => None,
     }
 }

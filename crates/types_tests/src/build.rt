@@ -1,4 +1,6 @@
-use logic_term::{AdtDecl, AdtId, CompoundTy, FieldDecl, Region, Ty, TyNode, TyUnary, VariantDecl};
+use logic_term::{
+    AdtDecl, AdtId, CompoundTy, FieldDecl, Region, Ty, TyNode, TyUnary, VariantDecl, VariantKind,
+};
 use rs_types::AdtTable;
 use source_kinds::IntKind;
 use std::alloc::Global;
@@ -73,6 +75,7 @@ fn variant(alloc: Global, text: &[u8]) -> Result<VariantDecl, NoMemory> {
     }
     Ok(VariantDecl {
         name: Name(0),
+        kind: VariantKind::Numbered,
         fields,
     })
 }

@@ -16,6 +16,8 @@ mod declaring;
 #[cfg(test)]
 mod leaving;
 #[cfg(test)]
+mod making;
+#[cfg(test)]
 mod meaning;
 #[cfg(test)]
 mod running;
