@@ -81,9 +81,7 @@ fn push_binary(
 fn push_part(out: &mut String, names: &Names, t: &Term) -> Result<(), AllocError> {
     if !matches!(
         t.form(),
-        TermForm::Binary(_, _, _)
-            | TermForm::Choice(_, _, _)
-            | TermForm::Quantified(_, _, _, _)
+        TermForm::Binary(_, _, _) | TermForm::Choice(_, _, _) | TermForm::Quantified(_, _, _, _)
     ) {
         return push_formula(out, names, t);
     }
