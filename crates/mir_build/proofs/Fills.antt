@@ -179,7 +179,8 @@ mutual
   fills (assign ty s a e) c l t d =
       as_counts _ (omega arith) (omega arith) (made_then _ _ _ _ _ refl refl (fills e c l (t + 1) t) (join _ _ _ _ refl refl (target_filled a c _ _ (fills a c _ _ _) (before_filled a c _ _)) (put _ _ (one _ _ _))))
   fills (update ty s op a e) c l t d =
-      as_counts _ (omega arith) (omega arith) (made_then _ _ _ _ _ refl refl (fills e c l (t + 1) t) (join _ (t + 1 + locals e + temporary_count (is_place a) + locals a) _ _ refl (omega arith) (target_filled a c _ _ (fills a c _ _ _) (before_filled a c _ _)) (make_local _ _ (put _ _ (put _ _ (one _ _ _))))))
+      as_counts _ (omega arith) (omega arith) (made_then _ _ _ _ _ refl refl (fills e c l (t + 1) t)
+      (join _ (t + 1 + locals e + temporary_count (is_place a) + locals a) _ _ refl (omega arith) (target_filled a c _ _ (fills a c _ _ _) (before_filled a c _ _)) (make_local _ _ (put _ _ (put _ _ (one _ _ _))))))
   fills (call ty s f es) c l t d = as_counts _ (omega arith) (omega arith) (join _ _ _ _ refl refl (args_filled es c l t) (turn _ _ c _))
   fills (make ty s k es) c l t d = as_counts _ (omega arith) (omega arith) (join _ _ _ _ refl refl (args_filled es c l t) (one _ _ _))
   fills (part ty s e n) c l t d = as_counts _ (omega arith) (omega arith) (join _ _ _ _ refl refl (target_filled e c l t (fills e c l (t + 1) t) (before_filled e c l t)) (one _ _ _))

@@ -39,7 +39,18 @@ pub record FunctionAt (ds : List AdtDecl) (σ : List Signature) (first : ℕ) (f
 
 further : (ds : List AdtDecl) (σ : List Signature) (first : ℕ) (f : TypedFunction) (fs : List TypedFunction) (b : Body) (bs : List Body) (c : Contract) (cs : List Contract) (g : Initialised) (gs : List Initialised) (n : ℕ) (h : TypedFunction) (k : Body)
     → FunctionAt ds σ (suc first) fs bs cs gs n h k → FunctionAt ds σ first (f ∷ fs) (b ∷ bs) (c ∷ cs) (g ∷ gs) (suc n) h k
-further ds σ first f fs b bs c cs g gs n h k w = record { owner = w.owner; gone = w.gone; is_function = w.is_function; is_body = w.is_body; is_number = omega (arith, w.is_number); contract = w.contract; is_contract = w.is_contract; has_contract = w.has_contract; is_gone = w.is_gone; lowers = w.lowers }
+further ds σ first f fs b bs c cs g gs n h k w = record {
+  owner = w.owner;
+  gone = w.gone;
+  is_function = w.is_function;
+  is_body = w.is_body;
+  is_number = omega (arith, w.is_number);
+  contract = w.contract;
+  is_contract = w.is_contract;
+  has_contract = w.has_contract;
+  is_gone = w.is_gone;
+  lowers = w.lowers;
+}
 
 pub of_body : (table : List (List ℕ)) (ds : List AdtDecl) (σ : List Signature) (first : ℕ) (fs : List TypedFunction) (bs : List Body) (cs : List Contract) (gones : List Initialised) → EachLowersTo table ds σ first fs bs cs gones
     → (n : ℕ) (b : Body) → slice_get bs n ≡ Some b → (f : TypedFunction) × FunctionAt ds σ first fs bs cs gones n f b

@@ -138,7 +138,8 @@ length-counted n (x ∷ xs) = ap suc (length-counted (n + 1) xs)
 is_for : (ds : List AdtDecl) (f : TypedFunction) → length f.signature.params ≡ length (around_body ds f).scope
 is_for ds f = sym (length-map (counted 1 f.signature.params) whole ∙ length-counted 1 f.signature.params)
 
-built_parts : (ds : List AdtDecl) (f : TypedFunction) → built ds f ≡ text_at (closed (fresh (entry_title (label 0))) (text_of_body ds f)) (behind (fresh (entry_title (label 0))) (text_of_body ds f)) (f.signature.answer ∷ (f.signature.params ++ types (text_of_body ds f))) (map gone_at (owned (text_of_body ds f)))
+built_parts : (ds : List AdtDecl) (f : TypedFunction) → built ds f
+    ≡ text_at (closed (fresh (entry_title (label 0))) (text_of_body ds f)) (behind (fresh (entry_title (label 0))) (text_of_body ds f)) (f.signature.answer ∷ (f.signature.params ++ types (text_of_body ds f))) (map gone_at (owned (text_of_body ds f)))
 built_parts ds f = written_parts (text_of_body ds f) [] (fresh (entry_title (label 0))) (f.signature.answer ∷ f.signature.params) []
 
 -- the blocks of what is built, when it has left

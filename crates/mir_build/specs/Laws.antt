@@ -71,7 +71,8 @@ abbrev pub LocalsHaveNames : Type 0
 LocalsHaveNames = (table : List (List ℕ)) (ds : List AdtDecl) (fs : List TypedFunction) (bs : Bodies) (cs : Contracts) (gones : List Initialised) → Lowers table ds fs bs cs gones → (n : ℕ) (b : Body) → slice_get bs.bodies n ≡ Some b → LocalsAreNamed b × LocalsAreNoVariables b
 
 abbrev pub LocalsHaveBuiltTypes : Type 0
-LocalsHaveBuiltTypes = (table : List (List ℕ)) (ds : List AdtDecl) (fs : List TypedFunction) (bs : Bodies) (cs : Contracts) (gones : List Initialised) → Lowers table ds fs bs cs gones → (n : ℕ) (b : Body) → slice_get bs.bodies n ≡ Some b → (x : ℕ) (t : Ty) → slice_get b.locals x ≡ Some t → IsScalar t
+LocalsHaveBuiltTypes = (table : List (List ℕ)) (ds : List AdtDecl) (fs : List TypedFunction) (bs : Bodies) (cs : Contracts) (gones : List Initialised) → Lowers table ds fs bs cs gones
+    → (n : ℕ) (b : Body) → slice_get bs.bodies n ≡ Some b → (x : ℕ) (t : Ty) → slice_get b.locals x ≡ Some t → IsScalar t
 
 -- there are labellings that meet the rows of moves and by which heads speak of what is there
 abbrev pub HeadsSpeakOfWhatIsThere : Type 0

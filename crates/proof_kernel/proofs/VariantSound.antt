@@ -104,7 +104,8 @@ case_at P q θ k [] names cs e all new i v f = absurd (cc)
 case_at P q θ k (w ∷ vs) [] cs e all new i v f = absurd (cc)
 case_at P q θ k (w ∷ vs) (xs ∷ names) cs e all new i v f = by (length xs == length w.fields) refl e (λ ds h p j g. case_at P q θ (suc k) vs names ds h p new.1 j v g)
   where
-    first : (i : ℕ) → slice_get (w ∷ vs) i ≡ Some v → length xs ≡ length w.fields → (ds : List Case) → cases_in θ (suc k) vs names ≡ Some ds → All P (case_of θ k xs w.fields ∷ ds) → ((ds : List Case) → cases_in θ (suc k) vs names ≡ Some ds → All P ds → (j : ℕ) → slice_get vs j ≡ Some v → (ys : List Name) × (length ys ≡ length v.fields) × AreNew ys q × P (case_of θ (suc k + j) ys v.fields))
+    first : (i : ℕ) → slice_get (w ∷ vs) i ≡ Some v → length xs ≡ length w.fields → (ds : List Case) → cases_in θ (suc k) vs names ≡ Some ds → All P (case_of θ k xs w.fields ∷ ds)
+        → ((ds : List Case) → cases_in θ (suc k) vs names ≡ Some ds → All P ds → (j : ℕ) → slice_get vs j ≡ Some v → (ys : List Name) × (length ys ≡ length v.fields) × AreNew ys q × P (case_of θ (suc k + j) ys v.fields))
         → (xs : List Name) × (length xs ≡ length v.fields) × AreNew xs q × P (case_of θ (k + i) xs v.fields)
     first zero g many ds h p later =
         let same : w ≡ v = same_some w v g in
@@ -115,7 +116,8 @@ case_at P q θ k (w ∷ vs) (xs ∷ names) cs e all new i v f = by (length xs ==
         let here : suc k + j ≡ k + suc j = omega arith in
         (r.0, r.1, r.2, subst (λ n. P (case_of θ n r.0 v.fields)) here r.3)
 
-    by : (b : Bool) → (length xs == length w.fields) ≡ b → cond b (option_map (λ ds. case_of θ k xs w.fields ∷ ds) (cases_in θ (suc k) vs names)) None ≡ Some cs → ((ds : List Case) → cases_in θ (suc k) vs names ≡ Some ds → All P ds → (j : ℕ) → slice_get vs j ≡ Some v → (ys : List Name) × (length ys ≡ length v.fields) × AreNew ys q × P (case_of θ (suc k + j) ys v.fields))
+    by : (b : Bool) → (length xs == length w.fields) ≡ b → cond b (option_map (λ ds. case_of θ k xs w.fields ∷ ds) (cases_in θ (suc k) vs names)) None ≡ Some cs
+        → ((ds : List Case) → cases_in θ (suc k) vs names ≡ Some ds → All P ds → (j : ℕ) → slice_get vs j ≡ Some v → (ys : List Name) × (length ys ≡ length v.fields) × AreNew ys q × P (case_of θ (suc k + j) ys v.fields))
         → (xs : List Name) × (length xs ≡ length v.fields) × AreNew xs q × P (case_of θ (k + i) xs v.fields)
     by false m g later = absurd (cc)
     by true m g later =
