@@ -14,8 +14,11 @@ decreases-push_unary l = 3 * term_size l.a.now + 2
 abbrev pub decreases-push_binary : goal.decreases-push_binary
 decreases-push_binary l = 3 * max (term_size l.a.now) (term_size l.b.now) + 2
 
-abbrev pub decreases-push_forall : goal.decreases-push_forall
-decreases-push_forall l = 3 * term_size l.body.now + 2
+abbrev pub decreases-push_quantified : goal.decreases-push_quantified
+decreases-push_quantified l = 3 * term_size l.body.now + 2
+
+abbrev pub decreases-push_choice : goal.decreases-push_choice
+decreases-push_choice l = 3 * max (term_size l.condition.now) (max (term_size l.first.now) (term_size l.second.now)) + 2
 
 abbrev pub decreases-push_parts : goal.decreases-push_parts
 decreases-push_parts l = 3 * terms_size (terms_of l.parts.now)
