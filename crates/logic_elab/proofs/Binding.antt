@@ -14,7 +14,6 @@ use Rattle.logic_elab.specs.Binders.{under_one, meant_under, inside, written_sor
 
 -- a type with arguments is not built
 pub with_arguments : (s : Span) (x : Segment) (arguments : List TypeArgument) → 1 ≤ length arguments → written_sort (named s x (type_arguments_of arguments)) ≡ Err (unbuilt s)
-unfolding written_sort
 with_arguments s x [] h = absurd (omega arith)
 with_arguments s x (argument.Lifetime l ∷ rest) h = refl
 with_arguments s x (argument.Type w ∷ rest) h = refl

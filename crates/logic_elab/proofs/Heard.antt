@@ -1,6 +1,6 @@
 -- What holds of the terms that names and literals become, and is kept by each form, holds of each term.
 use Rattle.std.proofs.Common.{◌≡◌, Bool, true, false, List, [], ◌∷◌, Option, Some, None, Result, Ok, Err, refl, subst}
-use Rattle.std.specs.Prelude.{ℤ, if◌then◌else◌}
+use Rattle.std.specs.Prelude.{ℕ, ℤ, if◌then◌else◌}
 use Rattle.text_core.specs.declared.name.Name.{Name}
 use Rattle.text_core.specs.declared.refusal.SourceError.{SourceError}
 use Rattle.text_core.specs.declared.span.Span.{Span}
@@ -11,21 +11,30 @@ use Rattle.source_kinds.specs.declared.kinds.Comparison.TheVariants.{Eq, Ne, Lt,
 use Rattle.source_kinds.specs.Range.{fits}
 use Rattle.source_trees.specs.declared.operator.BinaryTerm.TheVariants.{Implies, Or, And, Compare, Calculate}
 use Rattle.source_trees.specs.declared.operator.UnaryTerm.TheVariants.{Neg, Not, View}
+use Rattle.source_trees.specs.declared.path.Number.{Number}
 use Rattle.source_trees.specs.declared.path.Segment.{Segment}
 use Rattle.source_trees.specs.Pterm as T
 use Rattle.source_trees.specs.Pterm.{Pterm}
 use Rattle.source_trees.specs.PtermView.{span_of}
-use Rattle.logic_term.specs.Term.{Term, var, lit, truth as truth_term, model, negative as negative_term, not as not_term, calculate, is_less, is_at_most, is_equal, and as and_term, or as or_term, implies as implies_term, Quantifier, bind, if_else}
-use Rattle.logic_term.specs.Ty.{Ty, int, bool, math_int}
+use Rattle.logic_term.specs.declared.kinds.Ctor.TheVariants.{Tuple}
+use Rattle.logic_term.specs.Sorted.{sort_at}
+use Rattle.logic_term.specs.Term.{Term, Terms, apply, made, no_terms, and_term as and_terms, part as part_term, var, lit, truth as truth_term, model, negative as negative_term, not as not_term, calculate, is_less, is_at_most, is_equal, and as and_term, or as or_term, implies as implies_term, Quantifier, bind, if_else}
+use Rattle.logic_term.specs.Ty.{Ty, Tys, int, bool, math_int, tuple, adt, no_tys, and_ty}
 use Rattle.logic_elab.specs.declared.scope.Symbol.{Symbol}
 use Rattle.logic_elab.specs.declared.sorted.SortedTerm.{SortedTerm}
 use Rattle.logic_elab.specs.Answers.{◌>>=◌, mismatch, pair}
 use Rattle.logic_elab.specs.Binders.{meant_under, inside, symbols_of, bound_all}
-use Rattle.logic_elab.specs.Elaborated.{sorted, literal, name_alone, symbol_or, name_term, named_term, answer_or, answer_term, model_of_sort, model_of, formula, number, ordered, is_ordering, ordered_at, compared, connected, quantifier_of, chosen, elaborated_under}
+use Rattle.logic_elab.specs.Elaborated.{sorted, literal, name_alone, symbol_or, name_term, named_term, answer_or, answer_term, model_of_sort, model_of, formula, number, ordered, is_ordering, ordered_at, compared, connected, quantifier_of, chosen, SortedTerms, no_parts, and_part, part_number, part_or, part_at, part_of_sort, part_of, elaborated_under, elaborated_parts}
 use Rattle.logic_elab.specs.Scope.{Scope}
 use Rattle.logic_elab.specs.Sorts.{same_ty, is_math_int, is_bool}
 use Rattle.logic_elab.proofs.Accepted.{bound, held, yes, same_ok}
 use Rattle.logic_elab.proofs.SameSorts.{equal_types}
+
+-- P holds of each term, at the sort at its place
+abbrev pub Each : (Ty → Term → Type 0) → Tys → Terms → Type 0
+Each P no_tys no_terms = Unit {0}
+Each P (and_ty s ss) (and_terms t ts) = P s t × Each P ss ts
+Each P ss ts = ⊥
 
 -- under these bound names, P, of a sort and a term, holds of variables and literals, and each form without binders keeps it
 pub record IsKept (P : Ty → Term → Type 0) (Γ : Scope) (bs : List Symbol) : Type 0 where
@@ -45,6 +54,8 @@ pub record IsKept (P : Ty → Term → Type 0) (Γ : Scope) (bs : List Symbol) :
   pub disjunctions : (t u : Term) → P bool t → P bool u → P bool (or_term t u)
   pub implications : (t u : Term) → P bool t → P bool u → P bool (implies_term t u)
   pub choices : (s : Ty) (c t u : Term) → P bool c → P s t → P s u → P s (if_else c t u)
+  pub tuples : (ss : Tys) (ts : Terms) → Each P ss ts → P (tuple ss) (apply (made Tuple) ts)
+  pub parts : (ss : Tys) (n : ℕ) (s : Ty) (t : Term) → sort_at ss n ≡ Some s → P (tuple ss) t → P s (part_term n t)
 
 bool_sort : (t : Ty) → is_bool t ≡ true → t ≡ bool
 bool_sort bool e = refl
@@ -142,6 +153,31 @@ module _ (P : Ty → Term → Type 0) (Γ : Scope) (bs : List Symbol) (kept : Is
       let q = held (same_ty b.sort a.sort) (Ok (sorted a.sort (if_else c a.term b.term))) (mismatch s) r p in
       given a.sort (if_else c a.term b.term) r (kept.choices a.sort c a.term b.term f h (subst (λ u. P u b.term) (equal_types b.sort a.sort q.0) k)) q.1
 
+  -- ---- tuples
+
+  part_or_holds : (ss : Tys) (s : Span) (t : Term) (n : ℕ) (o : Option Ty) (r : SortedTerm) → sort_at ss n ≡ o → P (tuple ss) t → part_or s t n o ≡ Ok r → Of r
+  part_or_holds ss s t n None r e h p = absurd (cc)
+  part_or_holds ss s t n (Some u) r e h p = given u (part_term n t) r (kept.parts ss n u t e h) p
+
+  part_at_holds : (ss : Tys) (s : Span) (t : Term) (n : Option ℕ) (r : SortedTerm) → P (tuple ss) t → part_at s t ss n ≡ Ok r → Of r
+  part_at_holds ss s t None r h p = absurd (cc)
+  part_at_holds ss s t (Some n) r h p = part_or_holds ss s t n (sort_at ss n) r refl h p
+
+  part_of_sort_holds : (u : Ty) (s s' : Span) (t : Term) (n : Option ℕ) (r : SortedTerm) → P u t → part_of_sort u s s' t n ≡ Ok r → Of r
+  part_of_sort_holds (tuple ss) s s' t n r h p = part_at_holds ss s' t n r h p
+  part_of_sort_holds (adt d rs ts) s s' t n r h p = absurd (cc)
+  part_of_sort_holds u s s' t n r h p = absurd (cc)
+
+  part_holds : (s : Span) (k : Number) (a r : SortedTerm) → Of a → part_of s k a ≡ Ok r → Of r
+  unfolding part_of
+  part_holds s k a r h p = part_of_sort_holds a.sort s k.span a.term (part_number k) r h p
+
+  abbrev AllOf : SortedTerms → Type 0
+  AllOf ps = Each P ps.sorts ps.terms
+
+  given_parts : (ps rs : SortedTerms) → AllOf ps → yes ps ≡ Ok rs → AllOf rs
+  given_parts ps rs h p = subst AllOf (same_ok _ _ p) h
+
   -- a connective of two formulas
   connected_holds : (op : Term → Term → Term) (m n : Result Term SourceError) (r : SortedTerm) → ((t u : Term) → P bool t → P bool u → P bool (op t u))
       → ((u : Term) → m ≡ Ok u → P bool u) → ((u : Term) → n ≡ Ok u → P bool u) → (pair m n >>= connected op) ≡ Ok r → Of r
@@ -166,53 +202,67 @@ module _ (P : List Symbol → Ty → Term → Type 0) (q : Quantifier) (binds : 
 
 module _ (P : List Symbol → Ty → Term → Type 0) (Γ : Scope) (kept : (bs : List Symbol) → IsKept (P bs) Γ bs)
     (binds : (q : Quantifier) (bs : List Symbol) (b : Symbol) (t : Term) → P (b ∷ bs) bool t → P bs bool (bind q b.name b.sort t)) where
-  pub holds_of_each : (bs : List Symbol) (t : Pterm) (r : SortedTerm) → elaborated_under Γ bs t ≡ Ok r → P bs r.sort r.term
-  holds_of_each bs (T.integer s z k) r p = literal_holds (P bs) Γ bs (kept bs) s z k r p
-  holds_of_each bs (T.truth s b) r p = given (P bs) Γ bs (kept bs) bool (truth_term b) r ((kept bs).truths b) p
-  holds_of_each bs (T.answer s x) r p = answer_holds (P bs) Γ bs (kept bs) s x r p
-  holds_of_each bs (T.path s w) r p = named_holds (P bs) Γ bs (kept bs) s (name_alone w.node) r p
-  holds_of_each bs (T.unary s View t) r p =
-      let a = bound (elaborated_under Γ bs t) _ r p in
-      model_holds (P bs) Γ bs (kept bs) (span_of t) a.0 r (holds_of_each bs t a.0 a.1) a.2
-  holds_of_each bs (T.unary s Neg t) r p =
-      let a = bound (elaborated_under Γ bs t) _ r p in
-      let x = bound (number (span_of t) a.0) _ r a.2 in
-      given (P bs) Γ bs (kept bs) math_int (negative_term x.0) r ((kept bs).negatives x.0 (number_holds (P bs) Γ bs (kept bs) (span_of t) a.0 x.0 (holds_of_each bs t a.0 a.1) x.1)) x.2
-  holds_of_each bs (T.unary s Not t) r p =
-      let a = bound (elaborated_under Γ bs t) _ r p in
-      let x = bound (formula (span_of t) a.0) _ r a.2 in
-      given (P bs) Γ bs (kept bs) bool (not_term x.0) r ((kept bs).denials x.0 (formula_holds (P bs) Γ bs (kept bs) (span_of t) a.0 x.0 (holds_of_each bs t a.0 a.1) x.1)) x.2
-  holds_of_each bs (T.binary s (Calculate op) t u) r p =
-      let a = bound (elaborated_under Γ bs t) _ r p in
-      let b = bound (elaborated_under Γ bs u) _ r a.2 in
-      let x = bound (number (span_of t) a.0) _ r b.2 in
-      let y = bound (number (span_of u) b.0) _ r x.2 in
-      given (P bs) Γ bs (kept bs) math_int (calculate op x.0 y.0) r
-      ((kept bs).operations op x.0 y.0 (number_holds (P bs) Γ bs (kept bs) (span_of t) a.0 x.0 (holds_of_each bs t a.0 a.1) x.1) (number_holds (P bs) Γ bs (kept bs) (span_of u) b.0 y.0 (holds_of_each bs u b.0 b.1) y.1)) y.2
-  holds_of_each bs (T.binary s (Compare op) t u) r p =
-      let a = bound (elaborated_under Γ bs t) _ r p in
-      let b = bound (elaborated_under Γ bs u) _ r a.2 in
-      compared_holds (P bs) Γ bs (kept bs) op (span_of t) (span_of u) a.0 b.0 r (holds_of_each bs t a.0 a.1) (holds_of_each bs u b.0 b.1) b.2
-  holds_of_each bs (T.binary s And t u) r p =
-      connected_holds (P bs) Γ bs (kept bs) and_term (elaborated_under Γ bs t >>= formula (span_of t)) (elaborated_under Γ bs u >>= formula (span_of u)) r (kept bs).conjunctions
-      (λ v q. asserted_by (P bs) Γ bs (kept bs) t (elaborated_under Γ bs t) v (λ a h. holds_of_each bs t a h) q) (λ v q. asserted_by (P bs) Γ bs (kept bs) u (elaborated_under Γ bs u) v (λ a h. holds_of_each bs u a h) q) p
-  holds_of_each bs (T.binary s Or t u) r p =
-      connected_holds (P bs) Γ bs (kept bs) or_term (elaborated_under Γ bs t >>= formula (span_of t)) (elaborated_under Γ bs u >>= formula (span_of u)) r (kept bs).disjunctions
-      (λ v q. asserted_by (P bs) Γ bs (kept bs) t (elaborated_under Γ bs t) v (λ a h. holds_of_each bs t a h) q) (λ v q. asserted_by (P bs) Γ bs (kept bs) u (elaborated_under Γ bs u) v (λ a h. holds_of_each bs u a h) q) p
-  holds_of_each bs (T.binary s Implies t u) r p =
-      connected_holds (P bs) Γ bs (kept bs) implies_term (elaborated_under Γ bs t >>= formula (span_of t)) (elaborated_under Γ bs u >>= formula (span_of u)) r (kept bs).implications
-      (λ v q. asserted_by (P bs) Γ bs (kept bs) t (elaborated_under Γ bs t) v (λ a h. holds_of_each bs t a h) q) (λ v q. asserted_by (P bs) Γ bs (kept bs) u (elaborated_under Γ bs u) v (λ a h. holds_of_each bs u a h) q) p
-  holds_of_each bs (T.choice s c t u) r p =
-      let a = bound (elaborated_under Γ bs c) _ r p in
-      let f = bound (formula (span_of c) a.0) _ r a.2 in
-      let x = bound (elaborated_under Γ bs t) _ r f.2 in
-      let y = bound (elaborated_under Γ bs u) _ r x.2 in
-      chosen_holds (P bs) Γ bs (kept bs) (span_of u) f.0 x.0 y.0 r (formula_holds (P bs) Γ bs (kept bs) (span_of c) a.0 f.0 (holds_of_each bs c a.0 a.1) f.1) (holds_of_each bs t x.0 x.1) (holds_of_each bs u y.0 y.1) y.2
-  holds_of_each bs (T.quantified s q xs t) r p =
-      let ys = bound (symbols_of xs) _ r p in
-      let a = bound (elaborated_under Γ (inside bs ys.0) t) _ r ys.2 in
-      let f = bound (formula (span_of t) a.0) _ r a.2 in
-      let under = inside bs ys.0 in
-      given (P bs) Γ bs (kept bs) bool (bound_all (quantifier_of q) ys.0 f.0) r
-      (bound_all_holds P (quantifier_of q) (binds (quantifier_of q)) bs ys.0 f.0 (formula_holds (P under) Γ under (kept under) (span_of t) a.0 f.0 (holds_of_each under t a.0 a.1) f.1)) f.2
-  holds_of_each bs t r p = absurd (cc)
+  mutual
+    pub holds_of_each : (bs : List Symbol) (t : Pterm) (r : SortedTerm) → elaborated_under Γ bs t ≡ Ok r → P bs r.sort r.term
+    holds_of_each bs (T.integer s z k) r p = literal_holds (P bs) Γ bs (kept bs) s z k r p
+    holds_of_each bs (T.truth s b) r p = given (P bs) Γ bs (kept bs) bool (truth_term b) r ((kept bs).truths b) p
+    holds_of_each bs (T.answer s x) r p = answer_holds (P bs) Γ bs (kept bs) s x r p
+    holds_of_each bs (T.path s w) r p = named_holds (P bs) Γ bs (kept bs) s (name_alone w.node) r p
+    holds_of_each bs (T.unary s View t) r p =
+        let a = bound (elaborated_under Γ bs t) _ r p in
+        model_holds (P bs) Γ bs (kept bs) (span_of t) a.0 r (holds_of_each bs t a.0 a.1) a.2
+    holds_of_each bs (T.unary s Neg t) r p =
+        let a = bound (elaborated_under Γ bs t) _ r p in
+        let x = bound (number (span_of t) a.0) _ r a.2 in
+        given (P bs) Γ bs (kept bs) math_int (negative_term x.0) r ((kept bs).negatives x.0 (number_holds (P bs) Γ bs (kept bs) (span_of t) a.0 x.0 (holds_of_each bs t a.0 a.1) x.1)) x.2
+    holds_of_each bs (T.unary s Not t) r p =
+        let a = bound (elaborated_under Γ bs t) _ r p in
+        let x = bound (formula (span_of t) a.0) _ r a.2 in
+        given (P bs) Γ bs (kept bs) bool (not_term x.0) r ((kept bs).denials x.0 (formula_holds (P bs) Γ bs (kept bs) (span_of t) a.0 x.0 (holds_of_each bs t a.0 a.1) x.1)) x.2
+    holds_of_each bs (T.binary s (Calculate op) t u) r p =
+        let a = bound (elaborated_under Γ bs t) _ r p in
+        let b = bound (elaborated_under Γ bs u) _ r a.2 in
+        let x = bound (number (span_of t) a.0) _ r b.2 in
+        let y = bound (number (span_of u) b.0) _ r x.2 in
+        given (P bs) Γ bs (kept bs) math_int (calculate op x.0 y.0) r
+        ((kept bs).operations op x.0 y.0 (number_holds (P bs) Γ bs (kept bs) (span_of t) a.0 x.0 (holds_of_each bs t a.0 a.1) x.1) (number_holds (P bs) Γ bs (kept bs) (span_of u) b.0 y.0 (holds_of_each bs u b.0 b.1) y.1)) y.2
+    holds_of_each bs (T.binary s (Compare op) t u) r p =
+        let a = bound (elaborated_under Γ bs t) _ r p in
+        let b = bound (elaborated_under Γ bs u) _ r a.2 in
+        compared_holds (P bs) Γ bs (kept bs) op (span_of t) (span_of u) a.0 b.0 r (holds_of_each bs t a.0 a.1) (holds_of_each bs u b.0 b.1) b.2
+    holds_of_each bs (T.binary s And t u) r p =
+        connected_holds (P bs) Γ bs (kept bs) and_term (elaborated_under Γ bs t >>= formula (span_of t)) (elaborated_under Γ bs u >>= formula (span_of u)) r (kept bs).conjunctions
+        (λ v q. asserted_by (P bs) Γ bs (kept bs) t (elaborated_under Γ bs t) v (λ a h. holds_of_each bs t a h) q) (λ v q. asserted_by (P bs) Γ bs (kept bs) u (elaborated_under Γ bs u) v (λ a h. holds_of_each bs u a h) q) p
+    holds_of_each bs (T.binary s Or t u) r p =
+        connected_holds (P bs) Γ bs (kept bs) or_term (elaborated_under Γ bs t >>= formula (span_of t)) (elaborated_under Γ bs u >>= formula (span_of u)) r (kept bs).disjunctions
+        (λ v q. asserted_by (P bs) Γ bs (kept bs) t (elaborated_under Γ bs t) v (λ a h. holds_of_each bs t a h) q) (λ v q. asserted_by (P bs) Γ bs (kept bs) u (elaborated_under Γ bs u) v (λ a h. holds_of_each bs u a h) q) p
+    holds_of_each bs (T.binary s Implies t u) r p =
+        connected_holds (P bs) Γ bs (kept bs) implies_term (elaborated_under Γ bs t >>= formula (span_of t)) (elaborated_under Γ bs u >>= formula (span_of u)) r (kept bs).implications
+        (λ v q. asserted_by (P bs) Γ bs (kept bs) t (elaborated_under Γ bs t) v (λ a h. holds_of_each bs t a h) q) (λ v q. asserted_by (P bs) Γ bs (kept bs) u (elaborated_under Γ bs u) v (λ a h. holds_of_each bs u a h) q) p
+    holds_of_each bs (T.choice s c t u) r p =
+        let a = bound (elaborated_under Γ bs c) _ r p in
+        let f = bound (formula (span_of c) a.0) _ r a.2 in
+        let x = bound (elaborated_under Γ bs t) _ r f.2 in
+        let y = bound (elaborated_under Γ bs u) _ r x.2 in
+        chosen_holds (P bs) Γ bs (kept bs) (span_of u) f.0 x.0 y.0 r (formula_holds (P bs) Γ bs (kept bs) (span_of c) a.0 f.0 (holds_of_each bs c a.0 a.1) f.1) (holds_of_each bs t x.0 x.1) (holds_of_each bs u y.0 y.1) y.2
+    holds_of_each bs (T.quantified s q xs t) r p =
+        let ys = bound (symbols_of xs) _ r p in
+        let a = bound (elaborated_under Γ (inside bs ys.0) t) _ r ys.2 in
+        let f = bound (formula (span_of t) a.0) _ r a.2 in
+        let under = inside bs ys.0 in
+        given (P bs) Γ bs (kept bs) bool (bound_all (quantifier_of q) ys.0 f.0) r
+        (bound_all_holds P (quantifier_of q) (binds (quantifier_of q)) bs ys.0 f.0 (formula_holds (P under) Γ under (kept under) (span_of t) a.0 f.0 (holds_of_each under t a.0 a.1) f.1)) f.2
+    holds_of_each bs (T.tuple s ts) r p =
+        let ps = bound (elaborated_parts Γ bs ts) _ r p in
+        given (P bs) Γ bs (kept bs) (tuple ps.0.sorts) (apply (made Tuple) ps.0.terms) r ((kept bs).tuples ps.0.sorts ps.0.terms (parts_hold bs ts ps.0 ps.1)) ps.2
+    holds_of_each bs (T.part s t k) r p =
+        let a = bound (elaborated_under Γ bs t) _ r p in
+        part_holds (P bs) Γ bs (kept bs) s k a.0 r (holds_of_each bs t a.0 a.1) a.2
+    holds_of_each bs t r p = absurd (cc)
+
+    parts_hold : (bs : List Symbol) (ts : T.Terms) (ps : SortedTerms) → elaborated_parts Γ bs ts ≡ Ok ps → Each (P bs) ps.sorts ps.terms
+    parts_hold bs T.none ps p = given_parts (P bs) Γ bs (kept bs) no_parts ps tt p
+    parts_hold bs (T.more t ts) ps p =
+        let a = bound (elaborated_under Γ bs t) _ ps p in
+        let qs = bound (elaborated_parts Γ bs ts) _ ps a.2 in
+        given_parts (P bs) Γ bs (kept bs) (and_part a.0 qs.0) ps (holds_of_each bs t a.0 a.1, parts_hold bs ts qs.0 qs.1) qs.2

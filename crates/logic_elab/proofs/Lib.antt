@@ -2,6 +2,8 @@ pub mod Accepted
 pub mod Binding
 pub mod Chains
 pub mod Heard
+pub mod PartByPart
 pub mod SameSorts
+pub mod SortByPart
 pub mod SortLaw
 pub mod Stops

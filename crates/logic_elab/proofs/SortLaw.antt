@@ -2,19 +2,19 @@
 use Rattle.std.proofs.Common.{◌≡◌, ◌∙◌, ◌||◌, ◌&&◌, ◌==◌, not, cond, ℕ, Bool, true, false, List, [], ◌∷◌, Option, Some, None, ◌⊎◌, inl, inr, refl, ap, sym, subst, true≢false, arith}
 use Rattle.std.proofs.lemmas.Bool.Decides.{nat_tests}
 use Rattle.text_core.specs.declared.name.Name.{Name}
-use Rattle.logic_term.specs.Free.{free}
-use Rattle.logic_term.specs.Sorted.{Sorted, OperatorSort, one_ty, two_tys, with_sort}
+use Rattle.logic_term.specs.Free.{free, free_in_some}
+use Rattle.logic_term.specs.Sorted.{Sorted, AllSorted, OperatorSort, one_ty, two_tys, with_sort}
 use Rattle.logic_term.specs.Sorted as sorts
-use Rattle.logic_term.specs.Term.{Term, Operator, var, one, two, modeled, negated, denied, arith as by_op, less, at_most, equal, both, either, implied, Quantifier, bind, if_else}
+use Rattle.logic_term.specs.Term.{Term, Terms, Operator, field, no_terms, and_term, var, one, two, modeled, negated, denied, arith as by_op, less, at_most, equal, both, either, implied, Quantifier, bind, if_else}
 use Rattle.logic_term.specs.Theory.{Theory}
-use Rattle.logic_term.specs.Ty.{Ty, int, bool, math_int, and_ty}
+use Rattle.logic_term.specs.Ty.{Ty, Tys, int, bool, math_int, tuple, no_tys, and_ty}
 use Rattle.logic_term.proofs.FreeLaw.{same_test, same_name}
 use Rattle.logic_elab.specs.declared.scope.Symbol.{Symbol}
 use Rattle.logic_elab.specs.Binders.{apart, under_one, meant_under}
 use Rattle.logic_elab.specs.Elaborated.{answer_or}
 use Rattle.logic_elab.specs.Laws.{IsSpokenOf, ElaboratedTermsSpeakOfTheirScope, GivesSorts, ElaboratedTermsAreSorted}
 use Rattle.logic_elab.specs.Scope.{Scope}
-use Rattle.logic_elab.proofs.Heard.{IsKept, holds_of_each}
+use Rattle.logic_elab.proofs.Heard.{Each, IsKept, holds_of_each}
 
 -- ---- what a name means
 
@@ -83,6 +83,11 @@ module _ (Θ : Theory) (Δ : sorts.Scope) where
   choice_sorted : (s : Ty) (c t u : Term) → Sorted Θ Δ c bool → Sorted Θ Δ t s → Sorted Θ Δ u s → Sorted Θ Δ (if_else c t u) s
   choice_sorted s c t u f h k = (and_ty bool (two_tys s s), refl, (bool, two_tys s s, refl, f, (s, one_ty s, refl, h, (s, _, refl, k, refl))))
 
+  each_sorted : (ss : Tys) (ts : Terms) → Each (λ s t. Sorted Θ Δ t s) ss ts → AllSorted Θ Δ ts ss
+  each_sorted no_tys no_terms h = refl
+  each_sorted (and_ty s ss) (and_term t ts) h = (s, ss, refl, h.0, each_sorted ss ts h.1)
+  each_sorted ss ts h = absurd h
+
 sorts_are_kept : (Θ : Theory) (E : sorts.Scope) (Γ : Scope) → GivesSorts E Γ → (bs : List Symbol) → IsKept (λ s t. Sorted Θ (with_sorts E bs) t s) Γ bs
 sorts_are_kept Θ E Γ gives bs =
     let Δ = with_sorts E bs in
@@ -103,6 +108,8 @@ sorts_are_kept Θ E Γ gives bs =
       disjunctions = λ t u h k. two_sorted Θ Δ either bool bool t u (refl, refl) h k;
       implications = λ t u h k. two_sorted Θ Δ implied bool bool t u (refl, refl) h k;
       choices = λ s c t u f h k. choice_sorted Θ Δ s c t u f h k;
+      tuples = λ ss ts h. (ss, refl, each_sorted Θ Δ ss ts h);
+      parts = λ ss n s t e h. one_sorted Θ Δ (field n) (tuple ss) s t (tuple ss, refl, e) h;
     }
 
 pub terms_are_sorted : ElaboratedTermsAreSorted
@@ -142,6 +149,15 @@ module _ (Q : Name → Type 0) where
 
   only_choice : (c t u : Term) → Only c → Only t → Only u → Only (if_else c t u)
   only_choice c t u f h k x p = elim (in_three (free x c) (free x t) (free x u) p) as (λ _. Q x) [ inl a ↦ f x a | inr b ↦ elim b as (λ _. Q x) [ inl d ↦ h x d | inr d ↦ k x d ] ]
+
+  in_either : (a b : Bool) → (a || b) ≡ true → (a ≡ true) ⊎ (b ≡ true)
+  in_either true b p = inl refl
+  in_either false b p = inr p
+
+  only_each : (ss : Tys) (ts : Terms) → Each (λ s t. Only t) ss ts → (x : Name) → free_in_some x ts ≡ true → Q x
+  only_each no_tys no_terms h x p = absurd (true≢false (sym p))
+  only_each (and_ty s ss) (and_term t ts) h x p = elim (in_either (free x t) (free_in_some x ts) p) as (λ _. Q x) [ inl a ↦ h.0 x a | inr b ↦ only_each ss ts h.1 x b ]
+  only_each ss ts h x p = absurd h
 
 -- the names that are bound, and those that the scope gives
 abbrev Spoken : Scope → List Symbol → Name → Type 0
@@ -192,6 +208,8 @@ names_are_kept Γ bs =
       disjunctions = λ t u h k. only_two Q either t u h k;
       implications = λ t u h k. only_two Q implied t u h k;
       choices = λ s c t u f h k. only_choice Q c t u f h k;
+      tuples = λ ss ts h. only_each Q ss ts h;
+      parts = λ ss n s t e h. only_one Q (field n) t h;
     }
 
 pub terms_speak_of_their_scope : ElaboratedTermsSpeakOfTheirScope

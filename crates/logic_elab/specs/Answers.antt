@@ -1,5 +1,6 @@
 -- What a source is refused for, how parts come one after another, and how the code's answers stand for what a definition comes to.
-use Rattle.std.specs.Prelude.{Bool, None, Result, Ok, Err, if◌then◌else◌}
+use Rattle.std.specs.Prelude.{◌≡◌, Bool, None, Result, Ok, Err, if◌then◌else◌}
+use Rattle.text_core.specs.declared.fault.PassError.{PassError}
 use Rattle.text_core.specs.declared.refusal.Code.TheVariants.{E20}
 use Rattle.text_core.specs.declared.refusal.SourceError.{SourceError}
 use Rattle.text_core.specs.declared.span.Span.{Span}
@@ -19,3 +20,8 @@ pair one other = do
   a ← one
   b ← other
   Ok (a, b)
+
+-- value: what the definition speaks of, from what the code answers
+abbrev pub AnswersAs : {T A : Type 0} → Result T PassError → Result A SourceError → (T → A) → Type 0
+AnswersAs (Ok a) m value = m ≡ Ok (value a)
+AnswersAs (Err f) m value = Refuses f m

@@ -6,7 +6,7 @@ use Rattle.text_core.specs.declared.refusal.Code.TheVariants.{E06}
 use Rattle.text_core.specs.declared.refusal.SourceError.{SourceError}
 use Rattle.text_core.specs.declared.span.Span.{Span}
 use Rattle.logic_term.specs.Term.{Quantifier, Term, bind}
-use Rattle.logic_term.specs.Ty.{Ty, int, bool, math_int}
+use Rattle.logic_term.specs.Ty.{Ty, Tys, int, bool, math_int, tuple, no_tys, and_ty}
 use Rattle.rs_types.specs.declared.written.TypeName.{TypeName}
 use Rattle.rs_types.specs.declared.written.TypeName.TheVariants as name
 use Rattle.rs_types.specs.Meant.{words}
@@ -50,10 +50,21 @@ abbrev pub sort_or : Span → Option Ty → Result Ty SourceError
 sort_or s None = Err (unbuilt s)
 sort_or s (Some t) = Ok t
 
--- the sort that is written; no other type is built
-unfoldable pub written_sort : W.TypeTree → Result Ty SourceError
-written_sort (W.named s x W.no_arguments) = sort_or s (sort_of_word (slice_get words x.name.0))
-written_sort w = Err (unbuilt (type_span w))
+abbrev mutual
+  -- the sort that is written: of a word, or of a tuple of such; no other type is built
+  pub written_sort : W.TypeTree → Result Ty SourceError
+  written_sort (W.named s x W.no_arguments) = sort_or s (sort_of_word (slice_get words x.name.0))
+  written_sort (W.tuple s ws) = do
+    ts ← written_sorts ws
+    Ok (tuple ts)
+  written_sort w = Err (unbuilt (type_span w))
+
+  pub written_sorts : W.Types → Result Tys SourceError
+  written_sorts W.none = Ok no_tys
+  written_sorts (W.more w ws) = do
+    t ← written_sort w
+    ts ← written_sorts ws
+    Ok (and_ty t ts)
 
 abbrev pub is_bound : Name → List Symbol → Bool
 is_bound x [] = false

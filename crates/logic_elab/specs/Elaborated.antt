@@ -1,19 +1,22 @@
 -- The terms that the terms of contracts become, with their sorts (Pearlite, Creusot). Literals without suffix and all
 -- arithmetic are of the unbounded integers. A term stands in a scope, under what quantifiers around it bind.
-use Rattle.std.specs.Prelude.{ℤ, Bool, true, false, List, [], Option, Some, None, Result, Ok, Err, if◌then◌else◌}
+use Rattle.std.specs.Prelude.{ℕ, ℤ, pos, Bool, true, false, List, [], Option, Some, None, Result, Ok, Err, if◌then◌else◌}
 use Rattle.text_core.specs.declared.name.Name.{Name}
 use Rattle.text_core.specs.declared.refusal.SourceError.{SourceError}
 use Rattle.text_core.specs.declared.span.Span.{Span}
 use Rattle.source_kinds.specs.declared.kinds.IntKind.{IntKind}
 use Rattle.source_kinds.specs.Range.{fits}
-use Rattle.logic_term.specs.Term.{Term, var, lit, truth as truth_term, model, negative as negative_term, not as not_term, calculate, is_less, is_at_most, is_equal, and as and_term, or as or_term, implies as implies_term, Quantifier, every, some, if_else}
-use Rattle.logic_term.specs.Ty.{Ty, int, bool, math_int}
+use Rattle.logic_term.specs.declared.kinds.Ctor.TheVariants.{Tuple}
+use Rattle.logic_term.specs.Sorted.{sort_at}
+use Rattle.logic_term.specs.Term.{Term, Terms, apply, made, no_terms, and_term as and_terms, part as part_term, var, lit, truth as truth_term, model, negative as negative_term, not as not_term, calculate, is_less, is_at_most, is_equal, and as and_term, or as or_term, implies as implies_term, Quantifier, every, some, if_else}
+use Rattle.logic_term.specs.Ty.{Ty, Tys, int, bool, math_int, tuple, adt, no_tys, and_ty}
 use Rattle.source_kinds.specs.declared.kinds.Comparison.{Comparison}
 use Rattle.source_kinds.specs.declared.kinds.Comparison.TheVariants.{Eq, Ne, Lt, Le, Gt, Ge}
 use Rattle.source_trees.specs.declared.operator.BinaryTerm.TheVariants.{Implies, Or, And, Compare, Calculate}
 use Rattle.source_trees.specs.declared.operator.Quantifier.{Quantifier as Word}
 use Rattle.source_trees.specs.declared.operator.Quantifier.TheVariants.{Forall, Exists}
 use Rattle.source_trees.specs.declared.operator.UnaryTerm.TheVariants.{Neg, Not, View}
+use Rattle.source_trees.specs.declared.path.Number.{Number}
 use Rattle.source_trees.specs.declared.path.Segment.{Segment}
 use Rattle.source_trees.specs.Pterm as T
 use Rattle.source_trees.specs.Pterm.{Pterm}
@@ -114,48 +117,107 @@ quantifier_of Exists = some
 unfoldable pub chosen : Span → Term → SortedTerm → SortedTerm → Result SortedTerm SourceError
 chosen s p a b = wanted (same_ty b.sort a.sort) s (sorted a.sort (if_else p a.term b.term))
 
--- the term over what its names mean; what has no row is not built
-abbrev pub elaborated_under : Scope → List Symbol → Pterm → Result SortedTerm SourceError
-elaborated_under Γ bs (T.integer s z k) = literal s z k
-elaborated_under Γ bs (T.truth s b) = Ok (sorted bool (truth_term b))
-elaborated_under Γ bs (T.answer s x) = answer_term Γ bs s x
-elaborated_under Γ bs (T.path s p) = named_term Γ bs s (name_alone p.node)
-elaborated_under Γ bs (T.unary s View t) = do
-  a ← elaborated_under Γ bs t
-  model_of (span_of t) a
-elaborated_under Γ bs (T.unary s Neg t) = do
-  a ← elaborated_under Γ bs t
-  x ← number (span_of t) a
-  Ok (sorted math_int (negative_term x))
-elaborated_under Γ bs (T.unary s Not t) = do
-  a ← elaborated_under Γ bs t
-  p ← formula (span_of t) a
-  Ok (sorted bool (not_term p))
-elaborated_under Γ bs (T.binary s (Calculate op) t u) = do
-  a ← elaborated_under Γ bs t
-  b ← elaborated_under Γ bs u
-  x ← number (span_of t) a
-  y ← number (span_of u) b
-  Ok (sorted math_int (calculate op x y))
-elaborated_under Γ bs (T.binary s (Compare op) t u) = do
-  a ← elaborated_under Γ bs t
-  b ← elaborated_under Γ bs u
-  compared op (span_of t) (span_of u) a b
-elaborated_under Γ bs (T.binary s And t u) = pair (elaborated_under Γ bs t >>= formula (span_of t)) (elaborated_under Γ bs u >>= formula (span_of u)) >>= connected and_term
-elaborated_under Γ bs (T.binary s Or t u) = pair (elaborated_under Γ bs t >>= formula (span_of t)) (elaborated_under Γ bs u >>= formula (span_of u)) >>= connected or_term
-elaborated_under Γ bs (T.binary s Implies t u) = pair (elaborated_under Γ bs t >>= formula (span_of t)) (elaborated_under Γ bs u >>= formula (span_of u)) >>= connected implies_term
-elaborated_under Γ bs (T.choice s c t u) = do
-  a ← elaborated_under Γ bs c
-  p ← formula (span_of c) a
-  x ← elaborated_under Γ bs t
-  y ← elaborated_under Γ bs u
-  chosen (span_of u) p x y
-elaborated_under Γ bs (T.quantified s q xs t) = do
-  ys ← symbols_of xs
-  a ← elaborated_under Γ (inside bs ys) t
-  p ← formula (span_of t) a
-  Ok (sorted bool (bound_all (quantifier_of q) ys p))
-elaborated_under Γ bs t = Err (unbuilt (span_of t))
+-- ---- tuples
+
+-- the sorts and the terms of parts
+pub record SortedTerms : Type 0 where
+  pub sorts : Tys
+  pub terms : Terms
+
+abbrev pub no_parts : SortedTerms
+no_parts = record { sorts = no_tys; terms = no_terms }
+
+abbrev pub and_part : SortedTerm → SortedTerms → SortedTerms
+and_part a ps = record { sorts = and_ty a.sort ps.sorts; terms = and_terms a.term ps.terms }
+
+abbrev pub tuple_term : SortedTerms → SortedTerm
+tuple_term ps = sorted (tuple ps.sorts) (apply (made Tuple) ps.terms)
+
+-- a number with a type at its end is that of no part
+abbrev pub number_by : Option IntKind → ℤ → Option ℕ
+number_by None (pos n) = Some n
+number_by _ _ = None
+
+abbrev pub part_number : Number → Option ℕ
+part_number k = number_by k.suffix k.value
+
+-- the span is that of the number
+abbrev pub part_or : Span → Term → ℕ → Option Ty → Result SortedTerm SourceError
+part_or r t n None = Err (unknown_name r)
+part_or r t n (Some s) = Ok (sorted s (part_term n t))
+
+abbrev pub part_at : Span → Term → Tys → Option ℕ → Result SortedTerm SourceError
+part_at r t ss None = Err (unknown_name r)
+part_at r t ss (Some n) = part_or r t n (sort_at ss n)
+
+-- of a tuple; parts of declared types are not built
+abbrev pub part_of_sort : Ty → Span → Span → Term → Option ℕ → Result SortedTerm SourceError
+part_of_sort (tuple ss) s r t n = part_at r t ss n
+part_of_sort (adt d rs ts) s r t n = Err (unbuilt s)
+part_of_sort _ s r t n = Err (unknown_name r)
+
+-- the span is that of the whole
+unfoldable pub part_of : Span → Number → SortedTerm → Result SortedTerm SourceError
+part_of s k a = part_of_sort a.sort s k.span a.term (part_number k)
+
+-- ---- terms
+
+abbrev mutual
+  -- the term over what its names mean; what has no row is not built
+  pub elaborated_under : Scope → List Symbol → Pterm → Result SortedTerm SourceError
+  elaborated_under Γ bs (T.integer s z k) = literal s z k
+  elaborated_under Γ bs (T.truth s b) = Ok (sorted bool (truth_term b))
+  elaborated_under Γ bs (T.answer s x) = answer_term Γ bs s x
+  elaborated_under Γ bs (T.path s p) = named_term Γ bs s (name_alone p.node)
+  elaborated_under Γ bs (T.unary s View t) = do
+    a ← elaborated_under Γ bs t
+    model_of (span_of t) a
+  elaborated_under Γ bs (T.unary s Neg t) = do
+    a ← elaborated_under Γ bs t
+    x ← number (span_of t) a
+    Ok (sorted math_int (negative_term x))
+  elaborated_under Γ bs (T.unary s Not t) = do
+    a ← elaborated_under Γ bs t
+    p ← formula (span_of t) a
+    Ok (sorted bool (not_term p))
+  elaborated_under Γ bs (T.binary s (Calculate op) t u) = do
+    a ← elaborated_under Γ bs t
+    b ← elaborated_under Γ bs u
+    x ← number (span_of t) a
+    y ← number (span_of u) b
+    Ok (sorted math_int (calculate op x y))
+  elaborated_under Γ bs (T.binary s (Compare op) t u) = do
+    a ← elaborated_under Γ bs t
+    b ← elaborated_under Γ bs u
+    compared op (span_of t) (span_of u) a b
+  elaborated_under Γ bs (T.binary s And t u) = pair (elaborated_under Γ bs t >>= formula (span_of t)) (elaborated_under Γ bs u >>= formula (span_of u)) >>= connected and_term
+  elaborated_under Γ bs (T.binary s Or t u) = pair (elaborated_under Γ bs t >>= formula (span_of t)) (elaborated_under Γ bs u >>= formula (span_of u)) >>= connected or_term
+  elaborated_under Γ bs (T.binary s Implies t u) = pair (elaborated_under Γ bs t >>= formula (span_of t)) (elaborated_under Γ bs u >>= formula (span_of u)) >>= connected implies_term
+  elaborated_under Γ bs (T.choice s c t u) = do
+    a ← elaborated_under Γ bs c
+    p ← formula (span_of c) a
+    x ← elaborated_under Γ bs t
+    y ← elaborated_under Γ bs u
+    chosen (span_of u) p x y
+  elaborated_under Γ bs (T.quantified s q xs t) = do
+    ys ← symbols_of xs
+    a ← elaborated_under Γ (inside bs ys) t
+    p ← formula (span_of t) a
+    Ok (sorted bool (bound_all (quantifier_of q) ys p))
+  elaborated_under Γ bs (T.tuple s ts) = do
+    ps ← elaborated_parts Γ bs ts
+    Ok (tuple_term ps)
+  elaborated_under Γ bs (T.part s t k) = do
+    a ← elaborated_under Γ bs t
+    part_of s k a
+  elaborated_under Γ bs t = Err (unbuilt (span_of t))
+
+  pub elaborated_parts : Scope → List Symbol → T.Terms → Result SortedTerms SourceError
+  elaborated_parts Γ bs T.none = Ok no_parts
+  elaborated_parts Γ bs (T.more t ts) = do
+    a ← elaborated_under Γ bs t
+    ps ← elaborated_parts Γ bs ts
+    Ok (and_part a ps)
 
 -- the term where no quantifier stands around it
 abbrev pub elaborated : Scope → Pterm → Result SortedTerm SourceError

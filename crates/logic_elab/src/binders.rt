@@ -1,16 +1,19 @@
 //! What quantifiers bind. The code has the bound names around a term with the outermost first.
 ghost use Rattle.std.specs.Prelude.{◌≡◌, ◌++◌, [], IfOk};
-ghost use Rattle.logic_elab.specs.Answers.{Answers};
-ghost use Rattle.logic_elab.specs.Binders.{apart, under_one, meant_under, inside, sort_of_word, written_sort, is_bound, symbol_after, symbols_of, bound_all};
+ghost use Rattle.logic_term.specs.TyView.{tys_of};
+ghost use Rattle.source_trees.specs.TypeTree.{named};
+ghost use Rattle.source_trees.specs.TypeTreeView.{type_arguments_of, types_of};
+ghost use Rattle.logic_elab.specs.Answers.{Answers, AnswersAs};
+ghost use Rattle.logic_elab.specs.Binders.{apart, under_one, meant_under, inside, sort_of_word, written_sort, written_sorts, is_bound, symbol_after, symbols_of, bound_all};
 ghost use Rattle.logic_term.specs.TermOperator.{quantifier};
 
 use crate::refusal::{double_name, unbuilt};
 use crate::scope::Symbol;
-use logic_term::{Quantifier, Term, Ty};
+use logic_term::{Quantifier, Term, Ty, TyNode};
 use rs_types::{TypeName, word_of};
-use source_trees::{Binder, TypeNode, TypeTree};
+use source_trees::{Binder, Segment, TypeArgument, TypeNode, TypeTree};
 use std::alloc::Global;
-use text_core::{Items, Name, NoMemory, PassError};
+use text_core::{Items, Name, NoMemory, PassError, Span};
 
 // ---- names under binders
 
@@ -101,26 +104,48 @@ fn sort_of_word(word: Option<TypeName>) -> Option<Ty>
     }
 }
 
-/// The sort that is written: a type of machine integers, `bool` or `Int`.
-#[tactic(auto, unfolding(crate::specs::Binders::written_sort), using(crate::proofs::Binding::with_arguments))]
-fn written_sort(written: &TypeTree) -> Result<Ty, PassError>
+/// The sort that a word is; the span is that of the type.
+#[tactic(auto, using(crate::proofs::Binding::with_arguments))]
+fn named_sort(span: Span, name: Segment, arguments: &[TypeArgument]) -> Result<Ty, PassError>
+    ensures { Answers result (written_sort (named span name (type_arguments_of arguments.now))) }
+{
+    if !arguments.is_empty() {
+        return Err(unbuilt(span));
+    }
+    match sort_of_word(word_of(name.name)) {
+        Some(sort) => Ok(sort),
+        None => Err(unbuilt(span)),
+    }
+}
+
+/// The sorts of the parts of a tuple, from the left.
+#[cycle(written_sort)]
+fn written_sorts(alloc: Global, written: &[TypeTree]) -> Result<Vec<Ty>, PassError>
+    ensures { AnswersAs result (written_sorts (types_of written.now)) (λ v. tys_of v.items) }
+{
+    let mut sorts = Vec::with_capacity(alloc, written.len())?;
+    for i in 0..written.len() {
+        let sort = written_sort(alloc, &written[i])?;
+        sorts.push(sort)?;
+    }
+    Ok(sorts)
+}
+
+/// The sort that is written: a type of machine integers, `bool`, `Int`, or a tuple of such.
+#[cycle(written_sort)]
+fn written_sort(alloc: Global, written: &TypeTree) -> Result<Ty, PassError>
     ensures { Answers result (written_sort written.now) }
 {
     let span = written.span;
     match &*written.node {
-        TypeNode::Named(name, arguments) => {
-            if !arguments.is_empty() {
-                return Err(unbuilt(span));
-            }
-            match sort_of_word(word_of(name.name)) {
-                Some(sort) => Ok(sort),
-                None => Err(unbuilt(span)),
-            }
+        TypeNode::Named(name, arguments) => named_sort(span, *name, arguments),
+        TypeNode::Tuple(parts) => {
+            let node = TyNode::Tuple(written_sorts(alloc, parts)?);
+            Ok(Ty { node })
         }
-        TypeNode::Tuple(_)
-        | TypeNode::Reference(_, _, _)
-        | TypeNode::SelfType
-        | TypeNode::SelfView => Err(unbuilt(span)),
+        TypeNode::Reference(_, _, _) | TypeNode::SelfType | TypeNode::SelfView => {
+            Err(unbuilt(span))
+        }
     }
 }
 
@@ -136,14 +161,14 @@ fn is_bound(name: Name, symbols: &[Symbol]) -> bool
 }
 
 /// The binder, after others of its quantifier.
-fn symbol_after(before: &[Symbol], binder: &Binder) -> Result<Symbol, PassError>
+fn symbol_after(alloc: Global, before: &[Symbol], binder: &Binder) -> Result<Symbol, PassError>
     ensures { Answers result (symbol_after before.now binder.now) }
 {
     let name = binder.name;
     if is_bound(name.name, before) {
         return Err(double_name(name.span));
     }
-    let sort = written_sort(&binder.ty)?;
+    let sort = written_sort(alloc, &binder.ty)?;
     Ok(Symbol {
         name: name.name,
         sort,
@@ -156,7 +181,7 @@ pub(crate) fn symbols_of(alloc: Global, binders: &[Binder]) -> Result<Items<Symb
 {
     let mut symbols = Items::new(alloc);
     for binder in binders {
-        let symbol = symbol_after(symbols.as_slice(), binder)?;
+        let symbol = symbol_after(alloc, symbols.as_slice(), binder)?;
         symbols.push(symbol)?;
     }
     Ok(symbols)

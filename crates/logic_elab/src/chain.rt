@@ -10,9 +10,9 @@ ghost use Rattle.logic_elab.specs.declared.scope.Symbol.{Symbol};
 ghost use Rattle.logic_elab.specs.Elaborated.{elaborated_under};
 
 use source_kinds::{ArithOp, Comparison};
-use source_trees::{BinaryTerm, Pterm, PtermNode, UnaryTerm};
+use source_trees::{BinaryTerm, Number, Pterm, PtermNode, UnaryTerm};
 use std::alloc::Global;
-use text_core::NoMemory;
+use text_core::{NoMemory, Span};
 
 /// The connectives.
 #[derive(Clone, Copy)]
@@ -27,6 +27,8 @@ pub(crate) enum Connective {
 pub(crate) enum TermOperation<'a> {
     /// `t@`
     View(&'a Pterm),
+    /// `t.0`, with its span.
+    Part(Span, &'a Pterm, &'a Number),
     Calculate(ArithOp, &'a Pterm, &'a Pterm),
     Compare(Comparison, &'a Pterm, &'a Pterm),
     Connect(Connective, &'a Pterm, &'a Pterm),
@@ -45,6 +47,7 @@ fn operation_of(t: &Pterm) -> Option<TermOperation<'_>>
 {
     match &*t.node {
         PtermNode::Unary(UnaryTerm::View, a) => Some(TermOperation::View(a)),
+        PtermNode::Part(a, number) => Some(TermOperation::Part(t.span, a, number)),
         PtermNode::Binary(op, a, b) => Some(binary_of(*op, a, b)),
         _ => None,
     }
@@ -67,6 +70,7 @@ fn left_of<'a>(operation: &TermOperation<'a>) -> &'a Pterm
 {
     match *operation {
         TermOperation::View(a) => a,
+        TermOperation::Part(_, a, _) => a,
         TermOperation::Calculate(_, a, _) => a,
         TermOperation::Compare(_, a, _) => a,
         TermOperation::Connect(_, a, _) => a,

@@ -4,17 +4,19 @@ ghost use Rattle.logic_term.specs.Term.{model, truth};
 ghost use Rattle.logic_term.specs.Ty.{bool, math_int};
 ghost use Rattle.logic_term.specs.TermOperator.{quantifier};
 ghost use Rattle.source_trees.specs.Pterm.{choice, quantified};
-ghost use Rattle.source_trees.specs.PtermView.{span_of};
-ghost use Rattle.logic_elab.specs.Answers.{Answers};
+ghost use Rattle.source_trees.specs.PtermView.{span_of, terms_of as written_terms};
+ghost use Rattle.logic_elab.specs.Answers.{Answers, AnswersAs};
 ghost use Rattle.logic_elab.specs.Binders.{inside};
 ghost use Rattle.logic_elab.specs.Chains.{behind, calculated, connection, has_left};
-ghost use Rattle.logic_elab.specs.Elaborated.{sorted, literal, name_alone, symbol_term, symbol_or, name_term, named_term, answer_or, answer_term, model_of, formula, number, ordered, is_ordering, ordered_at, compared, quantifier_of, chosen, elaborated, asserted, elaborated_under, asserted_under};
+ghost use Rattle.logic_elab.specs.Elaborated.{sorted, literal, name_alone, symbol_term, symbol_or, name_term, named_term, answer_or, answer_term, model_of, formula, number, ordered, is_ordering, ordered_at, compared, quantifier_of, chosen, elaborated, asserted, elaborated_under, elaborated_parts, asserted_under};
+ghost use Rattle.logic_elab.specs.Parts.{parts_as};
 
 use crate::binders::{bound_all, meant_under, symbols_inside, symbols_of};
 use crate::chain::{Connective, TermDescent, TermOperation, descend};
+use crate::parts::{SortedParts, part_of, tuple_term};
 use crate::refusal::{mismatch, unbuilt, unknown_name};
 use crate::scope::{Symbol, TermScope};
-use crate::sorted::SortedTerm;
+use crate::sorted::{SortedTerm, of_sort};
 use crate::sorts::{fits, is_bool, is_math_int, same_ty};
 use logic_term::{Quantifier as TermQuantifier, Term, Ty, TyNode};
 use source_kinds::{ArithOp, Comparison, IntKind};
@@ -27,13 +29,6 @@ fn span_of(t: &Pterm) -> Span
     ensures { result ≡ span_of t.now }
 {
     t.span
-}
-
-fn of_sort(alloc: Global, sort: Ty, term: Term) -> Result<SortedTerm, NoMemory>
-    ensures { IfOk result (λ t. t ≡ sorted sort term) }
-{
-    let term = Boxed::new(alloc, term)?;
-    Ok(SortedTerm { sort, term })
 }
 
 fn formula_of_sort(alloc: Global, term: Term) -> Result<SortedTerm, NoMemory>
@@ -414,16 +409,19 @@ fn elaborate_form<S: TermScope>(
         PtermNode::Quantified(word, binders, body) => {
             elaborate_quantified(alloc, scope, bound, *word, binders, body)
         }
-        PtermNode::Unary(UnaryTerm::View, _) | PtermNode::Binary(_, _, _) => unreachable!(),
+        PtermNode::Tuple(parts) => {
+            let parts = elaborate_parts(alloc, scope, bound, parts)?;
+            Ok(tuple_term(alloc, parts)?)
+        }
+        PtermNode::Unary(UnaryTerm::View, _) | PtermNode::Binary(_, _, _) | PtermNode::Part(_, _) =>
+            unreachable!(),
         PtermNode::Unary(UnaryTerm::Current | UnaryTerm::Final, _)
         | PtermNode::Receiver
         | PtermNode::MutRef(_, _)
         | PtermNode::Field(_, _)
-        | PtermNode::Part(_, _)
         | PtermNode::Method(_, _, _)
         | PtermNode::Call(_, _)
         | PtermNode::Literal(_, _)
-        | PtermNode::Tuple(_)
         | PtermNode::Match(_, _)
         | PtermNode::Predicate(_, _) => Err(unbuilt(t.span)),
     }
@@ -445,6 +443,24 @@ fn elaborate_choice<S: TermScope>(
     let left = elaborate_under(alloc, scope, bound, first)?;
     let right = elaborate_under(alloc, scope, bound, second)?;
     chosen(alloc, span_of(second), condition, left, right)
+}
+
+/// The parts of a tuple, from the left.
+#[cycle(elaborate)]
+fn elaborate_parts<S: TermScope>(
+    alloc: Global,
+    scope: &S,
+    bound: &[Symbol],
+    parts: &[Pterm],
+) -> Result<SortedParts, PassError>
+    ensures { AnswersAs result (elaborated_parts (S.scope scope.now) (inside [] bound.now) (written_terms parts.now)) parts_as }
+{
+    let mut made = SortedParts::new(alloc);
+    for i in 0..parts.len() {
+        let part = elaborate_under(alloc, scope, bound, &parts[i])?;
+        made.push(part)?;
+    }
+    Ok(made)
 }
 
 /// A quantifier, with its binders and its body.
@@ -479,6 +495,7 @@ fn elaborate_behind<S: TermScope>(
 {
     match operation {
         TermOperation::View(t) => model_of(alloc, span_of(t), left),
+        TermOperation::Part(span, _, number) => part_of(alloc, span, number, left),
         TermOperation::Calculate(op, t, u) => {
             let right = elaborate_under(alloc, scope, bound, u)?;
             calculated(alloc, op, (span_of(t), span_of(u)), left, right)

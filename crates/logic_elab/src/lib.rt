@@ -5,6 +5,7 @@ mod binders;
 mod chain;
 mod elaborating;
 mod laws;
+mod parts;
 mod refusal;
 mod scope;
 mod sorted;

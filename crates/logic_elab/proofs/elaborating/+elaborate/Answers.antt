@@ -3,6 +3,7 @@ use Rattle.std.proofs.lemmas.Result.{err_from_is_err_and}
 use Rattle.source_trees.specs.PtermView.{pterm_size, span_of}
 use Rattle.logic_elab.specs.Binders.{inside}
 use Rattle.logic_elab.proofs.Stops.{along}
+use Rattle.logic_elab.proofs.PartByPart.{part_smaller, parts_end, parts_more_all}
 use Rattle.logic_elab.proofs.Chains.{climbed_refuses, sizes_up, up, up_refuses}
 use Rattle.logic_elab.proofs.elaborating.+elaborate.Goals as goal
 
@@ -47,3 +48,16 @@ pub elaborate_form-returns-in-Quantified : goal.elaborate_form-returns-in-Quanti
 elaborate_form-returns-in-Quantified g t c =
     let h = c.elaborate_quantified.ensures (span_of c.args.t.now) in
     search (rules, h)
+
+pub elaborate_parts-elaborate_under-requires : goal.elaborate_parts-elaborate_under-requires
+elaborate_parts-elaborate_under-requires g t c κs within = (omega (arith, part_smaller c.args.parts.now c.loop-i.i c.index-parts-i.result c.index-parts-i.is c.loop-i-test.true), within)
+
+pub elaborate_parts-loop-i-preserved : goal.elaborate_parts-loop-i-preserved
+elaborate_parts-loop-i-preserved g t c =
+    parts_more_all (g.S.TermScope.scope c.args.scope.now) (inside [] c.args.bound.now) c.args.parts.now c.loop-i.i c.index-parts-i.result c.loop-i.made.sorts.items c.push.new.self.sorts.items c.loop-i.made.terms.items c.push.new.self.terms.items c.in_ok-part.part
+    c.index-parts-i.is c.loop-i-test.true c.in_ok-part.ensures c.in_ok-push.ensures.sorts c.in_ok-push.ensures.terms c.loop-i.invariant
+
+pub elaborate_parts-returns : goal.elaborate_parts-returns
+elaborate_parts-returns g t c =
+    c.loop-i.invariant
+    ∙ parts_end (g.S.TermScope.scope c.args.scope.now) (inside [] c.args.bound.now) c.args.parts.now c.loop-i.i c.loop-i.made.sorts.items c.loop-i.made.terms.items (omega arith)
