@@ -267,7 +267,7 @@ fn lines_but_comments_are_utf_8(rt: HostRuntime) {
 }
 
 /// Words of rules with another rest than theirs, and words of no step.
-const BAD_RULES: [&str; 79] = [
+const BAD_RULES: [&str; 90] = [
     "refl 1.1",
     "true ",
     "left 1.1",
@@ -279,7 +279,10 @@ const BAD_RULES: [&str; 79] = [
     "cases",
     "cases 1",
     "cases 1.1 1.2",
-    "cases 1.1 n",
+    "cases 1.1 fn",
+    "cases 1.1 n m",
+    "cases 1.1  n",
+    "cases n",
     "cases 1.01",
     "absurd",
     "absurd goal",
@@ -348,9 +351,17 @@ const BAD_RULES: [&str; 79] = [
     "inst 1.1 x; y",
     "back",
     "back 1.1 1.2",
+    "cond",
+    "cond x",
+    "cond < 1.1",
+    "cond 1.1 1.2",
+    "cond 1.1 in",
+    "exists",
+    "exists  x",
+    "eta ",
 ];
 
-const RULES: [&str; 30] = [
+const RULES: [&str; 37] = [
     "refl",
     "true",
     "left",
@@ -381,6 +392,13 @@ const RULES: [&str; 30] = [
     "inst 1.1 x",
     "inst 0.2 x@ + 1",
     "back 1.1",
+    "cases 1.1 n",
+    "cases 0.1 _1",
+    "cond 1.1",
+    "cond 1.1 in 0.2",
+    "exists x@ + 1",
+    "exists k",
+    "eta x",
 ];
 
 /// The first bad line of a file in which this is the second step.

@@ -471,8 +471,125 @@ fn by_a_term(rt: HostRuntime) -> Result<(), Fail> {
     expect_refused(&rt, rt.alloc(), &NOT_BY_TERM)
 }
 
+// ---- existential formulas, and `if`
+
+/// An existential goal at a term; a hypothesis under a name; and what a denial of quantifiers says.
+const BY_EXISTENCE: [(&str, &str); 9] = [
+    ("WE=zw", "intro w\nexists w\nrefl\n"),
+    ("WE<wz", "intro w\nexists w + 1\nlin 1:goal\n"),
+    // In normal form; and no quantifier within captures the term.
+    ("G=@x5", "exists 5i32\nrefl\n"),
+    (
+        "W>Z<wzEW<zw",
+        "intro w\nexists w\nintro k\ninst 1.1 k\nhyp 4.1\n",
+    ),
+    (">E<z0E<z0", "intro\ncases 1.1 k\nexists k\nhyp 2.1\n"),
+    ("W>E<zwE<zw", "intro w\ncases 1.1 k\nexists k\nhyp 2.1\n"),
+    ("W>G<@xwE<zw", "intro w\ncases 1.1 k\nexists k@\nhyp 2.1\n"),
+    ("W>!E<zwZ!<zw", "intro w\ncases 1.1\nhyp 2.1\n"),
+    ("W>!Z<zwE!<zw", "intro w\ncases 1.1\nhyp 2.1\n"),
+];
+
+const NOT_BY_EXISTENCE: [(&str, &str, u32); 14] = [
+    // Another sort, a name of no variable, another form, and another value.
+    ("XE=zz", "intro x\nexists x\n", 2),
+    ("WE=zw", "intro w\nexists q\n", 2),
+    ("W=ww", "intro w\nexists w\n", 2),
+    ("WZ=zz", "intro w\nexists w\n", 2),
+    ("WE=zw", "intro w\nexists w + 1\nrefl\n", 3),
+    // A name where there is nothing to be named, none where there is, and one that is there.
+    ("ZW>|<z0<w0<z0", "intro z w\ncases 1.1 k\n", 2),
+    ("W>!E<zwZ!<zw", "intro w\ncases 1.1 k\n", 2),
+    (">E<z0E<z0", "intro\ncases 1.1\n", 2),
+    ("W>E<z0E<z0", "intro w\ncases 1.1 w\n", 2),
+    ("W>Z<z0<w0", "intro w\ncases 1.1 k\n", 2),
+    ("W>E<z0E<z0", "intro w\ncases 1.2 k\n", 2),
+    (">E<z0E<z0", "intro\ncases 1.1 k\nexists k\nhyp 2.2\n", 4),
+    // What is denied of all is not denied of some.
+    ("W>!E<zwE!<zw", "intro w\ncases 1.1\nhyp 2.1\n", 3),
+    ("W>!Z<zwZ!<zw", "intro w\ncases 1.1\nhyp 2.1\n", 3),
+];
+
+/// `if` as a hypothesis, and in terms under a hypothesis that decides its condition.
+const BY_CONDITION: [(&str, &str); 13] = [
+    (
+        "ZW>?<z0<w0lzw|&<z0<w0&!<z0lzw",
+        "intro z w\ncases 1.1\nleft\nsplit\nhyp 2.1\nhyp 2.2\nright\nsplit\nhyp 2.1\nhyp 2.2\n",
+    ),
+    (
+        "ZW>!?<z0<w0lzw|&<z0!<w0&!<z0!lzw",
+        "intro z w\ncases 1.1\nleft\nsplit\nhyp 2.1\nhyp 2.2\nright\nsplit\nhyp 2.1\nhyp 2.2\n",
+    ),
+    ("ZW><z0=?<z0zwz", "intro z w\ncond 1.1\nrefl\n"),
+    ("ZW>!<z0=?<z0zww", "intro z w\ncond 1.1\nrefl\n"),
+    ("ZW>!<z0=?!<z0zwz", "intro z w\ncond 1.1\nrefl\n"),
+    (
+        "ZW><z0>?<z0<w0lzw<w0",
+        "intro z w\ncond 1.1 in 1.2\nhyp 2.1\n",
+    ),
+    (
+        "ZW><z0>?<z0<w0lzw?<z0<w0lzw",
+        "intro z w\ncond 1.1 in 1.2\nhyp 1.2\n",
+    ),
+    // Each of them, within a side and under a quantifier too, and up to bound names.
+    ("ZW><z0=?<z0?<z0zwwz", "intro z w\ncond 1.1\nrefl\n"),
+    ("ZW><z0=+?<z0zw?<z0wz+zw", "intro z w\ncond 1.1\nrefl\n"),
+    ("Z><z0W=?<z0zwz", "intro z\ncond 1.1\nintro w\nrefl\n"),
+    ("ZW>X<@xc=?Y<@yczwz", "intro z w\ncond 1.1\nrefl\n"),
+    // No occurrence.
+    ("ZW><z0>=?<w0zw1=?<w0zw1", "intro z w\ncond 1.1\nhyp 1.2\n"),
+    ("ZW><z0><w0<w0", "intro z w\ncond 1.1 in 1.2\nhyp 2.1\n"),
+];
+
+const NOT_BY_CONDITION: [(&str, &str, u32); 8] = [
+    ("ZW><z0=?<z0zww", "intro z w\ncond 1.1\nrefl\n", 3),
+    ("ZW>!<z0=?<z0zwz", "intro z w\ncond 1.1\nrefl\n", 3),
+    ("ZW><z0=?!<z0zww", "intro z w\ncond 1.1\nrefl\n", 3),
+    ("ZW><z0=?<z0zwz", "intro z w\ncond 1.2\n", 2),
+    ("ZW><z0=?<z0zwz", "intro z w\ncond 1.1 in 1.2\n", 2),
+    // What a quantifier binds is another.
+    ("Z><z0Z=?<z0000", "intro z\ncond 1.1\nintro k\nrefl\n", 4),
+    (
+        "ZW>?<z0<w0lzw<w0",
+        "intro z w\ncases 1.1\nhyp 2.2\nhyp 2.2\n",
+        4,
+    ),
+    ("ZW>?<z0<w0lzwlzw", "intro z w\ncases 1.1\nhyp 2.2\n", 3),
+];
+
+/// A pair is made of its parts.
+const BY_PARTS: [(&str, &str); 2] = [
+    ("P=xpfxgx", "intro x\neta x\nhyp 2.1\n"),
+    ("P><fx0<fpfxgx0", "intro x\neta x\nrewrite < 2.1\nhyp 1.1\n"),
+];
+
+const NOT_BY_PARTS: [(&str, &str, u32); 4] = [
+    ("P=xpgxfx", "intro x\neta x\nhyp 2.1\n", 3),
+    ("Z=zz", "intro z\neta z\n", 2),
+    ("X=xx", "intro x\neta x\n", 2),
+    ("P=xx", "intro x\neta y\n", 2),
+];
+
+#[test]
+fn by_existence(rt: HostRuntime) -> Result<(), Fail> {
+    expect_closed(&rt, rt.alloc(), &BY_EXISTENCE)?;
+    expect_refused(&rt, rt.alloc(), &NOT_BY_EXISTENCE)
+}
+
+#[test]
+fn by_a_condition(rt: HostRuntime) -> Result<(), Fail> {
+    expect_closed(&rt, rt.alloc(), &BY_CONDITION)?;
+    expect_refused(&rt, rt.alloc(), &NOT_BY_CONDITION)
+}
+
+#[test]
+fn by_parts(rt: HostRuntime) -> Result<(), Fail> {
+    expect_closed(&rt, rt.alloc(), &BY_PARTS)?;
+    expect_refused(&rt, rt.alloc(), &NOT_BY_PARTS)
+}
+
 /// Steps that cite a label of no step above them.
-const UNKNOWN: [&str; 13] = [
+const UNKNOWN: [&str; 16] = [
     "cases 2.1\n",
     "absurd 3.1\n",
     "drop 0.1\n",
@@ -486,6 +603,9 @@ const UNKNOWN: [&str; 13] = [
     "rewrite < 0.1\n",
     "rewrite < 1.1 in 0.1\n",
     "inst 2.1 z\n",
+    "cases 2.1 k\n",
+    "cond 2.1\n",
+    "cond 1.1 in 0.1\n",
 ];
 
 /// Whether this as the second step cites a step that is not above it.

@@ -1,5 +1,5 @@
 //! Terms of short texts, an operator standing before its parts.
-use logic_term::{AdtId, Ctor, Term, Ty};
+use logic_term::{AdtId, Ctor, Term, Ty, TyNode};
 use source_kinds::{ArithOp, IntKind};
 use std::alloc::Global;
 use text_core::{Name, NoMemory};
@@ -61,12 +61,26 @@ fn leaf(alloc: Global, letter: u8) -> Result<Option<Term>, NoMemory> {
     }
 }
 
-/// `X` and `Y`: for each `i32`; `B`: for each truth value `x`; `Z` and `W`: for each integer.
+/// The pairs of two integers.
+fn pairs(alloc: Global) -> Result<Ty, NoMemory> {
+    let mut parts = Vec::with_capacity(alloc, 2)?;
+    parts.push(Ty::math_int())?;
+    parts.push(Ty::math_int())?;
+    Ok(Ty {
+        node: TyNode::Tuple(parts),
+    })
+}
+
+/// `X` and `Y`: for each `i32`; `B`: for each truth value `x`; `P`: for each pair `x` of integers; `Z` and `W`: for each integer. `G`: for some
+/// `i32`, which is `x`; `E`: for some integer, which is `z`.
 fn quantified(alloc: Global, letter: u8, body: Term) -> Result<Term, NoMemory> {
     match letter {
         b'X' => Term::forall(alloc, X, Ty::int(IntKind::I32), body),
         b'Y' => Term::forall(alloc, Y, Ty::int(IntKind::I32), body),
         b'B' => Term::forall(alloc, X, Ty::bool(), body),
+        b'P' => Term::forall(alloc, X, pairs(alloc)?, body),
+        b'G' => Term::exists(alloc, X, Ty::int(IntKind::I32), body),
+        b'E' => Term::exists(alloc, Z, Ty::math_int(), body),
         b'Z' => Term::forall(alloc, Z, Ty::math_int(), body),
         b'W' => Term::forall(alloc, W, Ty::math_int(), body),
         _ => Err(NoMemory),
@@ -80,12 +94,14 @@ fn of_one(alloc: Global, number: u32, t: Term) -> Result<Term, NoMemory> {
     variant(alloc, number, parts)
 }
 
-/// `@` for the model, `_` for the negative, `!`, `a` and `b` for variants 0 and 1 of one part, and quantifiers.
+/// `@` for the model, `_` for the negative, `!`, `f` and `g` for parts 0 and 1, `a` and `b` for variants 0 and 1 of one part, and quantifiers.
 fn unary(alloc: Global, letter: u8, t: Term) -> Result<Term, NoMemory> {
     match letter {
         b'@' => Term::model(alloc, t),
         b'_' => Term::negative(alloc, t),
         b'!' => Term::not(alloc, t),
+        b'f' => Term::field(alloc, t, 0),
+        b'g' => Term::field(alloc, t, 1),
         b'a' => of_one(alloc, 0, t),
         b'b' => of_one(alloc, 1, t),
         _ => quantified(alloc, letter, t),
@@ -135,16 +151,20 @@ fn is_binary(letter: u8) -> bool {
     )
 }
 
-/// The term that begins with the letter, its parts on top, the first one topmost.
+/// The term that begins with the letter, its parts on top, the first one topmost; `?` is an `if`.
 fn made(alloc: Global, letter: u8, stack: &mut Vec<Term>) -> Result<Term, NoMemory> {
     if let Some(t) = leaf(alloc, letter)? {
         return Ok(t);
     }
     let a = stack.pop().ok_or(NoMemory)?;
-    if !is_binary(letter) {
+    if letter != b'?' && !is_binary(letter) {
         return unary(alloc, letter, a);
     }
     let b = stack.pop().ok_or(NoMemory)?;
+    if letter == b'?' {
+        let c = stack.pop().ok_or(NoMemory)?;
+        return Term::choice(alloc, a, b, c);
+    }
     binary(alloc, letter, a, b)
 }
 

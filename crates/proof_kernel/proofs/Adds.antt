@@ -18,9 +18,9 @@ use Rattle.proof_kernel.specs.Rules.{label, same_label, hypothesis, sort_of, wit
 use Rattle.proof_kernel.specs.Linear.{Difference, row_of, row_back, row_if_found, referred, AreRows}
 use Rattle.proof_kernel.specs.Setting.{Setting}
 use Rattle.proof_kernel.specs.Steps.{labels_in, labels_of, new_names, IsLabelOf, IsVariableOf, AddsItsOwn}
-use Rattle.proof_kernel.specs.Derivation.{Gives, by_intro, by_hyp, by_split, by_lin, by_goal, by_hypothesis, by_two, by_rewriting, by_term, by_division, by_instance, by_variants, by_induction}
+use Rattle.proof_kernel.specs.Derivation.{Gives, by_intro, by_hyp, by_split, by_lin, by_goal, by_hypothesis, by_two, by_rewriting, by_deciding, by_term, by_division, by_instance, by_unpacking, by_variants, by_induction}
 use Rattle.proof_kernel.proofs.Each.{Each, Has, each_and, each_of, each_map, contains_itself}
-use Rattle.proof_kernel.proofs.FormsAdd.{goal_has, hypothesis_has, pair_has, rewriting_has, term_has, division_has, instance_has, instance_there, hypothesis_there, pair_there, rewriting_there}
+use Rattle.proof_kernel.proofs.FormsAdd.{goal_has, hypothesis_has, pair_has, rewriting_has, decide_has, term_has, division_has, instance_has, unpack_has, instance_there, decide_there, unpack_there, hypothesis_there, pair_there, rewriting_there}
 use Rattle.proof_kernel.proofs.Taken.{takes_off_computed}
 use Rattle.proof_kernel.proofs.VariantsAdd.{variants_have, induction_has}
 
@@ -69,9 +69,11 @@ module _ (P : Label2 → Type 0) (N : Name → Type 0) (s : ℕ) (own : (k : ℕ
   given_adds w q step ps (by_hypothesis {r = r} {l = l} e) new has = ((hypothesis_there s q ps r l e, tt), hypothesis_has P N s own q has ps r l e)
   given_adds w q step ps (by_two {r = r} {l = l} {m = m} e) new has = let there = pair_there s q ps r l m e in ((there.0, (there.1, tt)), pair_has P N s own q has ps r l m e)
   given_adds w q step ps (by_rewriting {r = r} e) new has = (rewriting_there s q ps r e, rewriting_has P N s own q has ps r e)
-  given_adds w q step ps (by_term {r = r} {t = t} e) new has = (tt, term_has P N s own q has ps r t e)
+  given_adds w q step ps (by_deciding {l = l} {to = to} e) new has = (decide_there s q ps l to e, decide_has P N s own q has ps l to e)
+  given_adds w q step ps (by_term {r = r} {t = t} e) new has = (tt, term_has P N s own q has ps w.tables.adts r t e)
   given_adds w q step ps (by_division {t = t} {u = u} e) new has = (tt, division_has P N s own q has ps t u e)
   given_adds w q step ps (by_instance {l = l} {ts = ts} e) new has = ((instance_there s q ps l ts e, tt), instance_has P N s own q has ps l ts e)
+  given_adds w q step ps (by_unpacking {l = l} {x = x} fresh e) new has = ((unpack_there s q ps l x e, tt), unpack_has P N s own q has ps l x new.0 e)
   given_adds w q step ps (by_variants {t = t} {names = names} fresh e) new has = (tt, variants_have P N s own q has ps names new w.tables.adts t e)
   given_adds w q step ps (by_induction {x = x} {names = names} fresh free e) new has = (tt, induction_has P N s own q has ps names new w.tables.adts x e)
 

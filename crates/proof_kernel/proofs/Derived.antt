@@ -10,15 +10,17 @@ use Rattle.logic_term.proofs.CanonicalLaw.{same_up_to_names_means}
 use Rattle.proof_kernel.specs.Sequent.{Sequent}
 use Rattle.proof_kernel.specs.declared.setting.Tables.{Tables}
 use Rattle.proof_kernel.specs.declared.step.Step.{Step}
-use Rattle.proof_kernel.specs.declared.step.Step.TheVariants.{Intro, Hyp, Split, Lin, OnGoal, OnHypothesis, OnTwo, Rewrite, OnTerm, Divide, Instantiate, ByVariants, Induct}
+use Rattle.proof_kernel.specs.declared.step.Step.TheVariants.{Intro, Hyp, Split, Lin, OnGoal, OnHypothesis, OnTwo, Rewrite, Decide, OnTerm, Divide, Instantiate, Unpack, ByVariants, Induct}
 use Rattle.proof_kernel.specs.Sequent.{IsTrueAt, AllTrueAt}
 use Rattle.proof_kernel.specs.Setting.{Setting, IsStructureOf, setting_of, theory_of}
-use Rattle.proof_kernel.specs.Derivation.{Gives, by_intro, by_hyp, by_split, by_lin, by_goal, by_hypothesis, by_two, by_rewriting, by_term, by_division, by_instance, by_variants, by_induction, CitedAreTrue, Derives, no_step, one_step, IsProof}
+use Rattle.proof_kernel.specs.Derivation.{Gives, by_intro, by_hyp, by_split, by_lin, by_goal, by_hypothesis, by_two, by_rewriting, by_deciding, by_term, by_division, by_instance, by_unpacking, by_variants, by_induction, CitedAreTrue, Derives, no_step, one_step, IsProof}
 use Rattle.proof_kernel.proofs.Sound.{held, conjuncts_sound}
 use Rattle.proof_kernel.proofs.GoalSound.{goal_sound}
 use Rattle.proof_kernel.proofs.HypothesisSound.{hypothesis_sound}
 use Rattle.proof_kernel.proofs.PairSound.{pair_sound}
 use Rattle.proof_kernel.proofs.RewriteSound.{rewrite_sound}
+use Rattle.proof_kernel.proofs.DecideSound.{decide_sound}
+use Rattle.proof_kernel.proofs.UnpackSound.{unpack_sound}
 use Rattle.proof_kernel.proofs.TermSound.{term_sound, division_sound}
 use Rattle.proof_kernel.proofs.InstanceSound.{instance_sound}
 use Rattle.proof_kernel.proofs.IntroSound.{intros_sound}
@@ -39,9 +41,11 @@ nothing_cited w S (OnGoal r) = tt
 nothing_cited w S (OnHypothesis r l) = tt
 nothing_cited w S (OnTwo r l m) = tt
 nothing_cited w S (Rewrite r) = tt
+nothing_cited w S (Decide l to) = tt
 nothing_cited w S (OnTerm r t) = tt
 nothing_cited w S (Divide t u) = tt
 nothing_cited w S (Instantiate l ts) = tt
+nothing_cited w S (Unpack l x) = tt
 nothing_cited w S (ByVariants t names) = tt
 nothing_cited w S (Induct x names) = tt
 
@@ -55,9 +59,11 @@ module _ (w : Setting) (S : Structure) (is : IsStructureOf w S) where
   gives_sound s q step ps (by_hypothesis {r = r} {l = l} e) cited h = hypothesis_sound S s q ps h r l e
   gives_sound s q step ps (by_two {r = r} {l = l} {m = m} e) cited h = pair_sound S s q ps h r l m e
   gives_sound s q step ps (by_rewriting {r = r} e) cited h = rewrite_sound S s q ps h r e
-  gives_sound s q step ps (by_term {r = r} {t = t} e) cited h = term_sound S s q ps h r t e
+  gives_sound s q step ps (by_deciding {l = l} {to = to} e) cited h = decide_sound S s q ps h l to e
+  gives_sound s q step ps (by_term {r = r} {t = t} e) cited h = term_sound S s q ps h w.tables.adts (is.0) r t e
   gives_sound s q step ps (by_division {t = t} {u = u} e) cited h = division_sound S s q ps h t u e
   gives_sound s q step ps (by_instance {l = l} {ts = ts} e) cited h = instance_sound S s q ps h l ts e
+  gives_sound s q step ps (by_unpacking {l = l} {x = x} new e) cited h = unpack_sound S s q ps h l x new e
   gives_sound s q step ps (by_variants {t = t} {names = names} new e) cited h = variants_sound S w.tables.adts (is.0) s q t names ps new e h
   gives_sound s q step ps (by_induction {x = x} {names = names} new free e) cited h = induction_sound S w.tables.adts (is.0) s q x names ps new free e h
 

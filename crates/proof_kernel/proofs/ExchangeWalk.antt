@@ -1,15 +1,15 @@
 -- One step of the walk that exchanges subterms.
-use Rattle.std.proofs.Common.{◌≡◌, ℕ, suc, ◌+◌, ◌-◌, ◌*◌, ◌<◌, ◌≤◌, List, [], ◌∷◌, ◌++◌, length, drop, get_or, map, Option, Some, None, refl, sym, ◌∙◌, ap, ap₂, arith}
+use Rattle.std.proofs.Common.{◌≡◌, ℕ, suc, ◌+◌, ◌-◌, ◌*◌, ◌<◌, ◌≤◌, Bool, true, false, List, [], ◌∷◌, ◌++◌, length, drop, get_or, map, Option, Some, None, refl, sym, ◌∙◌, ap, ap₂, arith}
 use Rattle.std.proofs.lemmas.List.{append-nil, append_assoc, drop_more, length-map}
 use Rattle.logic_term.specs.Tasks.{with_last}
-use Rattle.logic_term.specs.Term.{Term, Terms, var, lit, truth, apply, bind, no_terms, and_term}
+use Rattle.logic_term.specs.Term.{choice, Term, Terms, var, lit, truth, apply, bind, no_terms, and_term}
 use Rattle.logic_term.specs.TermView.{terms_of}
 use Rattle.logic_term.specs.Walk.{listed, parts, weight, weights}
 use Rattle.logic_term.proofs.TasksWalk.{last_at}
 use Rattle.logic_term.proofs.Walking.{parts_lighter, pushed}
 use Rattle.proof_kernel.specs.declared.exchange.Task.{Task}
-use Rattle.proof_kernel.specs.Exchanged.{Exchange, or_else, exchanged, all_exchanged}
-use Rattle.proof_kernel.specs.ExchangeSteps.{Step, enter, remake, step, steps, depth_in, steps_of, made_of, with_parts, after, steps_weight}
+use Rattle.proof_kernel.specs.Exchanged.{Exchange, Instead, put, side, or_else, exchanged, all_exchanged}
+use Rattle.proof_kernel.specs.ExchangeSteps.{Step, enter, remake, step, steps, depth_in, part_steps, side_steps, steps_of, made_of, with_parts, after, steps_weight}
 
 module _ (h : Exchange) where
   -- ---- what comes of a term's steps
@@ -19,7 +19,7 @@ module _ (h : Exchange) where
   all_listed n (and_term t ts) = ap (λ us. and_term (exchanged h n t) us) (all_listed n ts)
 
   -- of the term itself
-  here : (n : ℕ) (t u : Term) → h n t ≡ Some u → exchanged h n t ≡ u
+  here : (n : ℕ) (t u : Term) → h n t ≡ Some (put u) → exchanged h n t ≡ u
   here n (var x) u e = ap (λ o. or_else o (var x)) e
   here n (lit z s) u e = ap (λ o. or_else o (lit z s)) e
   here n (truth b) u e = ap (λ o. or_else o (truth b)) e
@@ -38,14 +38,32 @@ module _ (h : Exchange) where
   entered_all n [] rest us = ap (after h rest) (sym (append-nil us))
   entered_all n (t ∷ ts) rest us = entered_all n ts rest (us ++ exchanged h n t ∷ []) ∙ ap (after h rest) (append_assoc us (exchanged h n t ∷ []) (map (exchanged h n) ts))
 
-  entered : (o : Option Term) (n : ℕ) (t : Term) (rest : List Step) (us : List Term) → h n t ≡ o → after h (steps_of o n t ++ rest) (us ++ made_of o) ≡ after h (enter n t ∷ rest) us
-  entered (Some u) n t rest us e = ap (λ v. after h rest (us ++ v ∷ [])) (sym (here n t u e))
-  entered None n t rest us e =
+  parts_entered : (n : ℕ) (t : Term) (rest : List Step) (us : List Term) → exchanged h n t ≡ with_parts t (map (exchanged h (depth_in n t)) (parts t)) → after h (part_steps n t ++ rest) (us ++ []) ≡ after h (enter n t ∷ rest) us
+  parts_entered n t rest us is =
       let new : List Term = map (exchanged h (depth_in n t)) (parts t) in
       ap (λ vs. after h ((map (enter (depth_in n t)) (parts t) ++ remake t ∷ []) ++ rest) vs) (append-nil us)
       ∙ ap (λ ss. after h ss us) (append_assoc (map (enter (depth_in n t)) (parts t)) (remake t ∷ []) rest)
       ∙ entered_all (depth_in n t) (parts t) (remake t ∷ rest) us
-      ∙ ap (after h rest) (last_at (with_parts t) (length (parts t)) us new (length-map (parts t) (exchanged h (depth_in n t))) ∙ ap (λ v. us ++ v ∷ []) (sym (below n t e)))
+      ∙ ap (after h rest) (last_at (with_parts t) (length (parts t)) us new (length-map (parts t) (exchanged h (depth_in n t))) ∙ ap (λ v. us ++ v ∷ []) (sym is))
+
+  -- of a side of an `if`; of another term, of its parts
+  side_entered : (first : Bool) (n : ℕ) (t : Term) (rest : List Step) (us : List Term) → h n t ≡ Some (side first) → after h (side_steps first n t ++ rest) (us ++ []) ≡ after h (enter n t ∷ rest) us
+  side_entered true n (apply choice (and_term c (and_term a (and_term b no_terms)))) rest us e =
+      ap (λ vs. after h rest (vs ++ exchanged h n a ∷ [])) (append-nil us)
+      ∙ ap (λ v. after h rest (us ++ v ∷ [])) (sym (ap (λ o. or_else o (apply choice (all_exchanged h n (and_term c (and_term a (and_term b no_terms)))))) e))
+  side_entered false n (apply choice (and_term c (and_term a (and_term b no_terms)))) rest us e =
+      ap (λ vs. after h rest (vs ++ exchanged h n b ∷ [])) (append-nil us)
+      ∙ ap (λ v. after h rest (us ++ v ∷ [])) (sym (ap (λ o. or_else o (apply choice (all_exchanged h n (and_term c (and_term a (and_term b no_terms)))))) e))
+  side_entered first n (var x) rest us e = parts_entered n (var x) rest us (ap (λ o. or_else o (var x)) e)
+  side_entered first n (lit z s) rest us e = parts_entered n (lit z s) rest us (ap (λ o. or_else o (lit z s)) e)
+  side_entered first n (truth b) rest us e = parts_entered n (truth b) rest us (ap (λ o. or_else o (truth b)) e)
+  side_entered first n (bind q x s t) rest us e = parts_entered n (bind q x s t) rest us (ap (λ o. or_else o (bind q x s (exchanged h (suc n) t))) e)
+  side_entered first n (apply op ts) rest us e = parts_entered n (apply op ts) rest us (ap (λ o. or_else o (apply op (all_exchanged h n ts))) e ∙ ap (apply op) (all_listed n ts))
+
+  entered : (o : Option Instead) (n : ℕ) (t : Term) (rest : List Step) (us : List Term) → h n t ≡ o → after h (steps_of o n t ++ rest) (us ++ made_of o) ≡ after h (enter n t ∷ rest) us
+  entered (Some (put u)) n t rest us e = ap (λ v. after h rest (us ++ v ∷ [])) (sym (here n t u e))
+  entered (Some (side first)) n t rest us e = side_entered first n t rest us e
+  entered None n t rest us e = parts_entered n t rest us (below n t e)
 
 one_off : (ts : List Term) (i : ℕ) (t : Term) → 0 < i → i ≤ length ts → t ≡ get_or ts (i - 1) t → drop (i - 1) ts ≡ t ∷ drop i ts
 one_off ts i t l m e =
@@ -66,13 +84,22 @@ weight_all : (n : ℕ) (ts : List Term) (rest : List Step) → steps_weight (map
 weight_all n [] rest = omega arith
 weight_all n (t ∷ ts) rest = let e = weight_all n ts rest in omega (arith, e)
 
-lighter : (o : Option Term) (n : ℕ) (t : Term) (rest : List Step) → steps_weight (steps_of o n t ++ rest) < steps_weight (enter n t ∷ rest)
-lighter (Some u) n t rest = let l = parts_lighter t in omega (arith, l)
-lighter None n t rest =
+parts_weigh_less : (n : ℕ) (t : Term) (rest : List Step) → steps_weight (part_steps n t ++ rest) < steps_weight (enter n t ∷ rest)
+parts_weigh_less n t rest =
     let a = append_assoc (map (enter (depth_in n t)) (parts t)) (remake t ∷ []) rest in
     let e = weight_all (depth_in n t) (parts t) (remake t ∷ rest) in
     let l = parts_lighter t in
     rw a (omega (arith, e, l))
+
+side_weighs_less : (first : Bool) (n : ℕ) (t : Term) (rest : List Step) → steps_weight (side_steps first n t ++ rest) < steps_weight (enter n t ∷ rest)
+side_weighs_less true n (apply choice (and_term c (and_term a (and_term b no_terms)))) rest = omega arith
+side_weighs_less false n (apply choice (and_term c (and_term a (and_term b no_terms)))) rest = omega arith
+side_weighs_less first n t rest = parts_weigh_less n t rest
+
+lighter : (o : Option Instead) (n : ℕ) (t : Term) (rest : List Step) → steps_weight (steps_of o n t ++ rest) < steps_weight (enter n t ∷ rest)
+lighter (Some (put u)) n t rest = let l = parts_lighter t in omega (arith, l)
+lighter (Some (side first)) n t rest = side_weighs_less first n t rest
+lighter None n t rest = parts_weigh_less n t rest
 
 -- ---- the stacks
 
@@ -86,7 +113,7 @@ module _ (h : Exchange) (old rest : List Task) (s : Task) (e : old ≡ rest ++ s
   pub remake_step : (t : Term) (vs : List Term) → step s ≡ remake t → vs ≡ with_last (with_parts t) (length (parts t)) us → after h (steps rest) vs ≡ all
   remake_step t vs f d = ap (after h (steps rest)) d ∙ ap (λ ss. after h ss us) (sym (popped old rest s (remake t) e f)) ∙ so_far
 
-pub enter_smaller : (o : Option Term) (old rest new : List Task) (s : Task) (n : ℕ) (t : Term) → old ≡ rest ++ s ∷ [] → step s ≡ enter n t → steps new ≡ steps_of o n t ++ steps rest
+pub enter_smaller : (o : Option Instead) (old rest new : List Task) (s : Task) (n : ℕ) (t : Term) → old ≡ rest ++ s ∷ [] → step s ≡ enter n t → steps new ≡ steps_of o n t ++ steps rest
     → steps_weight (steps new) < steps_weight (steps old)
 enter_smaller o old rest new s n t e f a =
     let b : steps_weight (steps old) ≡ steps_weight (enter n t ∷ steps rest) = ap steps_weight (popped old rest s (enter n t) e f) in

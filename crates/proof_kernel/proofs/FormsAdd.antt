@@ -4,7 +4,9 @@ use Rattle.std.specs.Option.{option_map}
 use Rattle.text_core.specs.declared.name.Name.{Name}
 use Rattle.logic_term.specs.declared.kinds.Label2.{Label2}
 use Rattle.logic_term.specs.Normal.{reduced}
-use Rattle.logic_term.specs.Term.{Term, not}
+use Rattle.logic_term.specs.Term.{some, Term, bind, not}
+use Rattle.logic_term.specs.declared.declaration.AdtDecl.{AdtDecl}
+use Rattle.logic_term.specs.Ty.{Ty}
 use Rattle.logic_elab.specs.declared.sorted.SortedTerm.{SortedTerm}
 use Rattle.proof_kernel.specs.Sequent.{Sequent}
 use Rattle.proof_kernel.specs.declared.step.GoalRule.{GoalRule}
@@ -24,9 +26,12 @@ use Rattle.proof_kernel.specs.HypothesisRules.{is_false, cases_of, in_cases, tog
 use Rattle.proof_kernel.specs.PairRules.{concluded, is_denied_by, distance, product, adding, on_two, pair_rule}
 use Rattle.source_trees.specs.Pterm.{Pterm}
 use Rattle.proof_kernel.specs.declared.step.TermRule.{TermRule}
-use Rattle.proof_kernel.specs.declared.step.TermRule.TheVariants.{Cut, On, Range}
-use Rattle.proof_kernel.specs.TermRules.{term_at, assuming_all, formula, shown_first, true_or_false, bounds_at, by_term, by_term_if, term_rule, number_if, division_of, division_rule}
+use Rattle.proof_kernel.specs.declared.step.TermRule.TheVariants.{Cut, On, Range, Witness, Eta}
+use Rattle.proof_kernel.specs.TermRules.{term_at, witnessed, assuming_all, formula, shown_first, true_or_false, bounds_at, by_term, by_term_if, term_rule, number_if, division_of, division_rule}
+use Rattle.proof_kernel.specs.DecideRule.{decided, decide_by, decide_rule}
+use Rattle.proof_kernel.specs.EtaRule.{eta_at}
 use Rattle.proof_kernel.specs.Instances.{instance_if, instance_rule}
+use Rattle.proof_kernel.specs.UnpackRule.{under_name, unpacking, unpack_rule}
 use Rattle.proof_kernel.specs.RewriteRules.{rewritten, changing, rewrite_rule}
 use Rattle.proof_kernel.specs.Rules.{label, same_label, hypothesis, without, labelled, with_goal, with_hyps, closed_if}
 use Rattle.proof_kernel.specs.Steps.{label_of_target, labels_of, IsLabelOf}
@@ -51,6 +56,20 @@ target_there s q ps (targets.Hyp l) f e = (added_there (hypothesis l q.hyps) e, 
 
 pub rewriting_there : (s : ℕ) (q : Sequent) (ps : List Sequent) (r : Rewriting) → rewrite_rule r s q ≡ Some ps → Each (IsLabelOf q) (labels_of (Rewrite r))
 rewriting_there s q ps r e = let f = rewriting_found r s q ps e in ((f.0, f.2), target_there s q ps r.target (rewritten f.1.0 f.1.1) f.4)
+
+pub decide_there : (s : ℕ) (q : Sequent) (ps : List Sequent) (l : Label2) (to : Target) → decide_rule s q l to ≡ Some ps → Each (IsLabelOf q) (l ∷ label_of_target to)
+decide_there s q ps l to e = at (hypothesis l q.hyps) refl e
+  where
+    at : (o : Option Term) → hypothesis l q.hyps ≡ o → decide_by s q to o ≡ Some ps → Each (IsLabelOf q) (l ∷ label_of_target to)
+    at None is f = absurd (cc)
+    at (Some t) is f = ((t, is), target_there s q ps to (decided t) f)
+
+pub unpack_there : (s : ℕ) (q : Sequent) (ps : List Sequent) (l : Label2) (x : Name) → unpack_rule s q l x ≡ Some ps → IsLabelOf q l
+unpack_there s q ps l x e = at (hypothesis l q.hyps) e
+  where
+    at : (o : Option Term) → unpacking s q x o ≡ Some ps → (t : Term) × (o ≡ Some t)
+    at None f = absurd (cc)
+    at (Some t) f = (t, refl)
 
 pub instance_there : (s : ℕ) (q : Sequent) (ps : List Sequent) (l : Label2) (ts : List Pterm) → instance_rule s q l ts ≡ Some ps → IsLabelOf q l
 instance_there s q ps l ts e = at (hypothesis l q.hyps) e
@@ -153,6 +172,27 @@ module _ (P : Label2 → Type 0) (N : Name → Type 0) (s : ℕ) (own : (k : ℕ
   pub rewriting_has : (r : Rewriting) → rewrite_rule r s q ≡ Some ps → Each (Has P N) ps
   rewriting_has r e = let f = rewriting_found r s q ps e in changing_has r.target (rewritten f.1.0 f.1.1) f.4
 
+  pub decide_has : (l : Label2) (to : Target) → decide_rule s q l to ≡ Some ps → Each (Has P N) ps
+  decide_has l to e = at (hypothesis l q.hyps) e
+    where
+      at : (o : Option Term) → decide_by s q to o ≡ Some ps → Each (Has P N) ps
+      at None f = absurd (cc)
+      at (Some t) f = changing_has to (decided t) f
+
+  pub unpack_has : (l : Label2) (x : Name) → N x → unpack_rule s q l x ≡ Some ps → Each (Has P N) ps
+  unpack_has l x new e = at (hypothesis l q.hyps) e
+    where
+      at : (o : Option Term) → unpacking s q x o ≡ Some ps → Each (Has P N) ps
+      at None f = absurd (cc)
+      at (Some (bind some y r t)) f = these_have _ f (
+        (
+          each_and (λ (h : Label2 × Term). P h.0) q.hyps _ has.0 (labels_own 1 (under_name y x t ∷ [])),
+          each_and (λ (v : Name × Ty). N v.0) q.vars ((x, r) ∷ []) has.1 (new, tt),
+        ),
+        tt,
+      )
+      at (Some t) f = absurd (cc)
+
   shown_has : (o : Option Term) → option_map (shown_first s q) o ≡ Some ps → Each (Has P N) ps
   shown_has None e = absurd (cc)
   shown_has (Some f) e = these_have _ e (has, (more_has (f ∷ []), tt))
@@ -165,17 +205,19 @@ module _ (P : Label2 → Type 0) (N : Name → Type 0) (s : ℕ) (own : (k : ℕ
   assuming_all_has None e = absurd (cc)
   assuming_all_has (Some ts) e = these_have _ e (more_has (map reduced ts), tt)
 
-  by_term_has : (r : TermRule) (a : SortedTerm) → by_term r s q a ≡ Some ps → Each (Has P N) ps
-  by_term_has Cut a e = shown_has (formula a) e
-  by_term_has On a e = true_or_false_has (formula a) e
-  by_term_has Range a e = assuming_all_has (bounds_at a.sort a.term) e
+  by_term_has : (adts : List AdtDecl) (r : TermRule) (a : SortedTerm) → by_term adts r s q a ≡ Some ps → Each (Has P N) ps
+  by_term_has adts Cut a e = shown_has (formula a) e
+  by_term_has adts On a e = true_or_false_has (formula a) e
+  by_term_has adts Range a e = assuming_all_has (bounds_at a.sort a.term) e
+  by_term_has adts Witness a e = to_show_has (witnessed a q.goal) e
+  by_term_has adts Eta a e = assuming_all_has (eta_at adts a) e
 
-  by_term_if_has : (r : TermRule) (o : Option SortedTerm) → by_term_if r s q o ≡ Some ps → Each (Has P N) ps
-  by_term_if_has r None e = absurd (cc)
-  by_term_if_has r (Some a) e = by_term_has r a e
+  by_term_if_has : (adts : List AdtDecl) (r : TermRule) (o : Option SortedTerm) → by_term_if adts r s q o ≡ Some ps → Each (Has P N) ps
+  by_term_if_has adts r None e = absurd (cc)
+  by_term_if_has adts r (Some a) e = by_term_has adts r a e
 
-  pub term_has : (r : TermRule) (t : Pterm) → term_rule r s q t ≡ Some ps → Each (Has P N) ps
-  term_has r t e = by_term_if_has r (term_at q t) e
+  pub term_has : (adts : List AdtDecl) (r : TermRule) (t : Pterm) → term_rule adts r s q t ≡ Some ps → Each (Has P N) ps
+  term_has adts r t e = by_term_if_has adts r (term_at q t) e
 
   pub division_has : (t u : Pterm) → division_rule s q t u ≡ Some ps → Each (Has P N) ps
   division_has t u e = assuming_all_has (division_of (number_if (term_at q t)) (number_if (term_at q u))) e

@@ -54,7 +54,7 @@ module _ (S : Structure) where
   denied_holds t c ρ e n = absurd (cc)
 
   module _ (s : ℕ) (q : Sequent) (ps : List Sequent) (h : AllTrueAt S ps) where
-    to_show_sound : (o : Option Term) → ((t : Term) (ρ : Env) → o ≡ Some t → Holds S t ρ → Holds S q.goal ρ) → to_show q o ≡ Some ps → IsTrueAt S q
+    pub to_show_sound : (o : Option Term) → ((t : Term) (ρ : Env) → o ≡ Some t → Holds S t ρ → Holds S q.goal ρ) → to_show q o ≡ Some ps → IsTrueAt S q
     to_show_sound None f e = absurd (cc)
     to_show_sound (Some t) f e = λ ρ z k. f t ρ refl ((these_true S _ ps e h).0 ρ z k)
 

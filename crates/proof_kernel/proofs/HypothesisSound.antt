@@ -3,13 +3,14 @@ use Rattle.std.proofs.Common.{◌≡◌, ℕ, suc, Bool, true, false, cond, List
 use Rattle.text_core.specs.declared.name.Name.{Name}
 use Rattle.logic_term.specs.declared.kinds.Label2.{Label2}
 use Rattle.logic_term.specs.Ty.{Ty}
-use Rattle.logic_term.specs.Term.{denied, equal, both, either, implied, Term, truth, apply, no_terms, and_term, not, and, or}
-use Rattle.logic_term.specs.Meaning.{Structure, Env, Holds}
-use Rattle.logic_term.proofs.Truth.{holds_false, holds_not, holds_and, holds_or, holds_implies}
+use Rattle.logic_term.specs.Term.{denied, equal, both, either, implied, choice, every, some, Term, truth, apply, bind, no_terms, and_term, not, and, or}
+use Rattle.logic_term.specs.Meaning.{Structure, Env, with_value, Holds}
+use Rattle.logic_term.proofs.Alike.{yes_alike}
+use Rattle.logic_term.proofs.Truth.{holds_false, holds_not, holds_and, holds_or, holds_implies, holds_forall, holds_exists, choice_true, choice_false}
 use Rattle.proof_kernel.specs.Sequent.{Sequent, InSorts, AllHold, IsTrueAt, AllTrueAt}
 use Rattle.proof_kernel.specs.declared.step.HypothesisRule.{HypothesisRule}
 use Rattle.proof_kernel.specs.declared.step.HypothesisRule.TheVariants.{Cases, Absurd, Drop, Revert, Back, Inject, Differ}
-use Rattle.proof_kernel.specs.HypothesisRules.{is_false, disjuncts, alone, pushed, one_case, value_cases, denied_cases, cases_of, in_cases, together, on_hypothesis, hypothesis_rule}
+use Rattle.proof_kernel.specs.HypothesisRules.{is_false, disjuncts, alone, pushed, one_case, value_cases, choice_cases, denied_cases, cases_of, in_cases, together, on_hypothesis, hypothesis_rule}
 use Rattle.proof_kernel.specs.Rules.{same_label, hypothesis, without, labelled, with_hyps, conjuncts}
 use Rattle.proof_kernel.specs.BackRule.{back_of}
 use Rattle.proof_kernel.specs.ConstructorRules.{injected, equates_apart}
@@ -82,7 +83,19 @@ module _ (S : Structure) where
       ((λ m. n ((holds_implies S a b ρ).1 (λ h. absurd (h m)))), (holds_not S b ρ).1 (λ g. n ((holds_implies S a b ρ).1 (λ h. g)))))
   pushed_holds (apply denied (and_term a no_terms)) u ρ e n =
       subst (λ (v : Term). Holds S v ρ) (same_some _ u e) (λ m. n ((holds_not S a ρ).1 (λ h. h m)))
+  pushed_holds (bind some x r a) u ρ e n =
+      subst (λ (v : Term). Holds S v ρ) (same_some _ u e) ((holds_forall S x r (not a) ρ).1
+      (λ w z. (holds_not S a (with_value ρ x w)).1 (λ h. n ((holds_exists S x r a ρ).1 (λ g. g w z h)))))
+  pushed_holds (bind every x r a) u ρ e n =
+      subst (λ (v : Term). Holds S v ρ) (same_some _ u e) ((holds_exists S x r (not a) ρ).1
+      (λ g. n ((holds_forall S x r a ρ).1 (λ w z m. g w z ((holds_not S a (with_value ρ x w)).1 (λ h. h m))))))
   pushed_holds t u ρ e n = absurd (cc)
+
+  -- one of both sides is so, by the truth of the condition
+  choice_case : (holds : Bool) (c a b : Term) (ρ : Env) → (Holds S c ρ → Holds S (cond holds a (not a)) ρ) → ((Holds S c ρ → ⊥) → Holds S (cond holds b (not b)) ρ) → NoCase (choice_cases holds c a b) ρ → ⊥
+  choice_case holds c a b ρ first second n =
+      let fails : Holds S c ρ → ⊥ = λ y. n.0 (y, (first y, tt)) in
+      n.1.0 ((holds_not S c ρ).1 fails, (second fails, tt))
 
   one_case_fails : (o : Option Term) (tss : List (List Term)) (ρ : Env) → one_case o ≡ Some tss → ((t : Term) → o ≡ Some t → Holds S t ρ) → NoCase tss ρ → ⊥
   one_case_fails None tss ρ e f n = absurd (cc)
@@ -96,6 +109,11 @@ module _ (S : Structure) where
     denied_case (apply equal (and_term a (and_term b no_terms))) tss e d n =
         let p = chosen tss (value_cases false a b) (are_formulas vars a b) e n in
         unequal_differ S vars ρ z a b p.0 d (λ h g. p.1.0 (h, (g, tt))) (λ h g. p.1.1.0 (h, (g, tt)))
+    denied_case (apply choice (and_term c (and_term a (and_term b no_terms)))) tss e d n =
+        choice_case false c a b ρ
+        (λ y. (holds_not S a ρ).1 (λ g. d ((yes_alike _ _ (choice_true S c a b ρ y)).1 g)))
+        (λ y. (holds_not S b ρ).1 (λ g. d ((yes_alike _ _ (choice_false S c a b ρ y)).1 g)))
+        (subst (λ (o : List (List Term)). NoCase o ρ) (sym (same_some _ tss e)) n)
     denied_case t tss e d n = one_case_fails (pushed t) tss ρ e (λ u f. pushed_holds t u ρ f d) n
 
     -- a true formula has a case
@@ -110,6 +128,11 @@ module _ (S : Structure) where
     some_case (apply equal (and_term a (and_term b no_terms))) tss e h n =
         let p = chosen tss (value_cases true a b) (are_formulas vars a b) e n in
         equal_agree S vars ρ z a b p.0 h (λ f g. p.1.0 (f, (g, tt))) (λ f g. p.1.1.0 (f, (g, tt)))
+    some_case (apply choice (and_term c (and_term a (and_term b no_terms)))) tss e h n =
+        choice_case true c a b ρ
+        (λ y. (yes_alike _ _ (choice_true S c a b ρ y)).0 h)
+        (λ y. (yes_alike _ _ (choice_false S c a b ρ y)).0 h)
+        (subst (λ (o : List (List Term)). NoCase o ρ) (sym (same_some _ tss e)) n)
     some_case (apply denied (and_term a no_terms)) tss e h n = denied_case a tss e ((holds_not S a ρ).0 h) n
     some_case t tss e h n = absurd (cc)
 

@@ -96,7 +96,7 @@ module _ (S : Structure) where
   abbrev Fresh : List Name → List Renaming → Term → Type 0
   Fresh names bound t = (z : Name) → free z t ≡ true → is_one_of (name_in bound z) names ≡ false
 
-  renamed_means : (bound : List Renaming) (t : Term) (ρ : Env) → Alike (Means S (renamed bound t) ρ) (Means S t (λ z. ρ (name_in bound z)))
+  pub renamed_means : (bound : List Renaming) (t : Term) (ρ : Env) → Alike (Means S (renamed bound t) ρ) (Means S t (λ z. ρ (name_in bound z)))
   renamed_means bound t ρ = with_terms_means S t ρ (λ z. ρ (name_in bound z)) (numbers_before bound [])
       (λ x e. subst (λ u. Alike (Means S u ρ) (λ v. v ≡ ρ (name_in bound x))) (sym (looked bound [] (λ y. y) (λ y. refl) x)) (alike_same _))
 
@@ -123,7 +123,7 @@ module _ (S : Structure) where
   fresh_body x z xs bound true own apart' = own
   fresh_body x z xs bound false own apart' = (either_false ((name_in bound z).0 == x.0) (is_one_of (name_in bound z) xs) (apart' refl)).1
 
-  under_binder : (b c : Bool) → b ≡ false → c ≡ true → (not b && c) ≡ true
+  pub under_binder : (b c : Bool) → b ≡ false → c ≡ true → (not b && c) ≡ true
   under_binder true c e f = absurd (true≢false e)
   under_binder false c e f = f
 

@@ -8,27 +8,30 @@ use Rattle.logic_term.specs.Canonical.{SameUpToNames}
 use Rattle.proof_kernel.specs.declared.step.Multiple.{Multiple}
 use Rattle.proof_kernel.specs.Sequent.{Sequent}
 use Rattle.proof_kernel.specs.declared.step.Step.{Step}
-use Rattle.proof_kernel.specs.declared.step.Step.TheVariants.{Intro, Hyp, Split, Lin, OnGoal, OnHypothesis, OnTwo, Rewrite, OnTerm, Divide, Instantiate, ByVariants, Induct}
+use Rattle.proof_kernel.specs.declared.step.Step.TheVariants.{Intro, Hyp, Split, Lin, OnGoal, OnHypothesis, OnTwo, Rewrite, Decide, OnTerm, Divide, Instantiate, Unpack, ByVariants, Induct}
 use Rattle.proof_kernel.specs.declared.kernel.Made.{Made}
 use Rattle.proof_kernel.specs.declared.kernel.Made.TheVariants.{Premises, TooWide, Nothing}
 use Rattle.proof_kernel.specs.Setting.{Setting}
 use Rattle.proof_kernel.specs.Progress.{Progress}
 use Rattle.proof_kernel.proofs.Once.{given}
-use Rattle.proof_kernel.specs.Derivation.{Gives, by_intro, by_hyp, by_split, by_lin, by_goal, by_hypothesis, by_two, by_rewriting, by_term, by_division, by_instance, by_variants, by_induction}
+use Rattle.proof_kernel.specs.Derivation.{Gives, by_intro, by_hyp, by_split, by_lin, by_goal, by_hypothesis, by_two, by_rewriting, by_deciding, by_term, by_division, by_instance, by_unpacking, by_variants, by_induction}
 use Rattle.proof_kernel.specs.Linear.{Certifies}
 use Rattle.proof_kernel.specs.declared.step.GoalRule.{GoalRule}
 use Rattle.proof_kernel.specs.declared.step.HypothesisRule.{HypothesisRule}
 use Rattle.proof_kernel.specs.declared.step.PairRule.{PairRule}
 use Rattle.proof_kernel.specs.declared.step.Rewriting.{Rewriting}
+use Rattle.proof_kernel.specs.declared.step.Target.{Target}
 use Rattle.proof_kernel.specs.declared.step.TermRule.{TermRule}
 use Rattle.source_trees.specs.Pterm.{Pterm}
 use Rattle.proof_kernel.specs.GoalRules.{goal_rule}
 use Rattle.proof_kernel.specs.HypothesisRules.{hypothesis_rule}
 use Rattle.proof_kernel.specs.PairRules.{pair_rule}
 use Rattle.proof_kernel.specs.RewriteRules.{rewrite_rule}
+use Rattle.proof_kernel.specs.DecideRule.{decide_rule}
+use Rattle.proof_kernel.specs.UnpackRule.{unpack_rule}
 use Rattle.proof_kernel.specs.TermRules.{term_rule, division_rule}
 use Rattle.proof_kernel.specs.Instances.{instance_rule}
-use Rattle.proof_kernel.specs.Rules.{Finds, hypothesis, with_goal, conjuncts, Intros, TakesSome, free_in_hyps}
+use Rattle.proof_kernel.specs.Rules.{Finds, hypothesis, with_goal, conjuncts, IsNew, Intros, TakesSome, free_in_hyps}
 use Rattle.proof_kernel.specs.VariantRules.{AllNew, variants_rule, induction_rule}
 use Rattle.proof_kernel.specs.Kernel.{Applies, IsWide}
 use Rattle.proof_kernel.specs.Made.{IsMadeFirst, PassesWidthAt, others_of}
@@ -44,9 +47,11 @@ wide_at w q qs (OnGoal r) s p = absurd p
 wide_at w q qs (OnHypothesis r l) s p = absurd p
 wide_at w q qs (OnTwo r l m) s p = absurd p
 wide_at w q qs (Rewrite r) s p = absurd p
+wide_at w q qs (Decide l to) s p = absurd p
 wide_at w q qs (OnTerm r t) s p = absurd p
 wide_at w q qs (Divide t u) s p = absurd p
 wide_at w q qs (Instantiate l ts) s p = absurd p
+wide_at w q qs (Unpack l x) s p = absurd p
 wide_at w q qs (ByVariants t names) s p = absurd p
 wide_at w q qs (Induct x names) s p = absurd p
 wide_at w q qs (Lin ms) s p = record { first = q; others = qs; multiples = ms; was = refl; is_lin = refl; passes = p }
@@ -140,11 +145,17 @@ module _ (w : Setting) (s : ℕ) (q : Sequent) (o : Option (Vec Sequent)) where
   pub no_rewriting : (r : Rewriting) → o ≡ None → Finds (rewrite_rule r s q) o → (ps : List Sequent) → Gives w s q (Rewrite r) ps → ⊥
   no_rewriting r e f ps g = none_is (rewrite_rule r s q) o ps e f (given w s q (Rewrite r) ps g)
 
-  pub term_given : (r : TermRule) (t : Pterm) (v : Vec Sequent) → o ≡ Some v → Finds (term_rule r s q t) o → Gives w s q (OnTerm r t) v.items
-  term_given r t v e f = by_term (found_is (term_rule r s q t) o v e f)
+  pub decide_given : (l : Label2) (to : Target) (v : Vec Sequent) → o ≡ Some v → Finds (decide_rule s q l to) o → Gives w s q (Decide l to) v.items
+  decide_given l to v e f = by_deciding (found_is (decide_rule s q l to) o v e f)
 
-  pub no_term : (r : TermRule) (t : Pterm) → o ≡ None → Finds (term_rule r s q t) o → (ps : List Sequent) → Gives w s q (OnTerm r t) ps → ⊥
-  no_term r t e f ps g = none_is (term_rule r s q t) o ps e f (given w s q (OnTerm r t) ps g)
+  pub no_decision : (l : Label2) (to : Target) → o ≡ None → Finds (decide_rule s q l to) o → (ps : List Sequent) → Gives w s q (Decide l to) ps → ⊥
+  no_decision l to e f ps g = none_is (decide_rule s q l to) o ps e f (given w s q (Decide l to) ps g)
+
+  pub term_given : (r : TermRule) (t : Pterm) (v : Vec Sequent) → o ≡ Some v → Finds (term_rule w.tables.adts r s q t) o → Gives w s q (OnTerm r t) v.items
+  term_given r t v e f = by_term (found_is (term_rule w.tables.adts r s q t) o v e f)
+
+  pub no_term : (r : TermRule) (t : Pterm) → o ≡ None → Finds (term_rule w.tables.adts r s q t) o → (ps : List Sequent) → Gives w s q (OnTerm r t) ps → ⊥
+  no_term r t e f ps g = none_is (term_rule w.tables.adts r s q t) o ps e f (given w s q (OnTerm r t) ps g)
 
   pub division_given : (t u : Pterm) (v : Vec Sequent) → o ≡ Some v → Finds (division_rule s q t u) o → Gives w s q (Divide t u) v.items
   division_given t u v e f = by_division (found_is (division_rule s q t u) o v e f)
@@ -157,6 +168,12 @@ module _ (w : Setting) (s : ℕ) (q : Sequent) (o : Option (Vec Sequent)) where
 
   pub no_instance : (l : Label2) (ts : List Pterm) → o ≡ None → Finds (instance_rule s q l ts) o → (ps : List Sequent) → Gives w s q (Instantiate l ts) ps → ⊥
   no_instance l ts e f ps g = none_is (instance_rule s q l ts) o ps e f (given w s q (Instantiate l ts) ps g)
+
+  pub unpack_given : (l : Label2) (x : Name) (v : Vec Sequent) → IsNew x q → o ≡ Some v → Finds (unpack_rule s q l x) o → Gives w s q (Unpack l x) v.items
+  unpack_given l x v new e f = by_unpacking new (found_is (unpack_rule s q l x) o v e f)
+
+  pub no_unpacking : (l : Label2) (x : Name) → o ≡ None → Finds (unpack_rule s q l x) o → (ps : List Sequent) → Gives w s q (Unpack l x) ps → ⊥
+  no_unpacking l x e f ps g = none_is (unpack_rule s q l x) o ps e f (given w s q (Unpack l x) ps g).1
 
   -- ---- by variants
 

@@ -1,12 +1,16 @@
 pub mod AcceptLaw
 pub mod Adds
+pub mod AtTerm
 pub mod BackSound
 pub mod Conjuncts
 pub mod ConstructorSound
+pub mod DecideSound
 pub mod Derived
 pub mod DivisionSound
 pub mod DroppedLaw
 pub mod Each
+pub mod EtaSound
+pub mod EtaSteps
 pub mod ExchangeLaw
 pub mod ExchangeWalk
 pub mod Facts
@@ -46,6 +50,7 @@ pub mod Sound
 pub mod Taken
 pub mod TermSound
 pub mod Types
+pub mod UnpackSound
 pub mod VariantSound
 pub mod VariantSteps
 pub mod VariantsAdd

@@ -5,20 +5,22 @@ use Rattle.logic_term.specs.Term.{Term, is_conjunction}
 use Rattle.logic_term.specs.Canonical.{SameUpToNames}
 use Rattle.proof_kernel.specs.Sequent.{Sequent}
 use Rattle.proof_kernel.specs.declared.step.Step.{Step}
-use Rattle.proof_kernel.specs.declared.step.Step.TheVariants.{Intro, Hyp, Split, Lin, OnGoal, OnHypothesis, OnTwo, Rewrite, OnTerm, Divide, Instantiate, ByVariants, Induct}
+use Rattle.proof_kernel.specs.declared.step.Step.TheVariants.{Intro, Hyp, Split, Lin, OnGoal, OnHypothesis, OnTwo, Rewrite, Decide, OnTerm, Divide, Instantiate, Unpack, ByVariants, Induct}
 use Rattle.proof_kernel.specs.declared.step.Multiple.{Multiple}
 use Rattle.proof_kernel.specs.Linear.{Difference, referred, AreRows, AreNarrow, Certifies, PassesWidth}
 use Rattle.proof_kernel.specs.GoalRules.{goal_rule}
 use Rattle.proof_kernel.specs.HypothesisRules.{hypothesis_rule}
 use Rattle.proof_kernel.specs.PairRules.{pair_rule}
 use Rattle.proof_kernel.specs.RewriteRules.{rewrite_rule}
+use Rattle.proof_kernel.specs.DecideRule.{decide_rule}
+use Rattle.proof_kernel.specs.UnpackRule.{unpack_rule}
 use Rattle.proof_kernel.specs.TermRules.{term_rule, division_rule}
 use Rattle.proof_kernel.specs.Instances.{instance_rule}
 use Rattle.proof_kernel.specs.VariantRules.{AllNew, variants_rule, induction_rule}
-use Rattle.proof_kernel.specs.Rules.{hypothesis, free_in_hyps, with_goal, conjuncts, Intros, TakesSome}
+use Rattle.proof_kernel.specs.Rules.{hypothesis, free_in_hyps, with_goal, conjuncts, IsNew, Intros, TakesSome}
 use Rattle.proof_kernel.specs.Setting.{Setting}
 use Rattle.proof_kernel.specs.Progress.{Progress}
-use Rattle.proof_kernel.specs.Derivation.{Gives, by_intro, by_hyp, by_split, by_lin, by_goal, by_hypothesis, by_two, by_rewriting, by_term, by_division, by_instance, by_variants, by_induction}
+use Rattle.proof_kernel.specs.Derivation.{Gives, by_intro, by_hyp, by_split, by_lin, by_goal, by_hypothesis, by_two, by_rewriting, by_deciding, by_term, by_division, by_instance, by_unpacking, by_variants, by_induction}
 use Rattle.proof_kernel.specs.Kernel.{Applies, IsWide}
 use Rattle.proof_kernel.proofs.Taken.{takes_off_once}
 
@@ -32,9 +34,11 @@ Given w s q (OnGoal r) ps = goal_rule r s q ≡ Some ps
 Given w s q (OnHypothesis r l) ps = hypothesis_rule r s l q ≡ Some ps
 Given w s q (OnTwo r l m) ps = pair_rule r s l m q ≡ Some ps
 Given w s q (Rewrite r) ps = rewrite_rule r s q ≡ Some ps
-Given w s q (OnTerm r t) ps = term_rule r s q t ≡ Some ps
+Given w s q (Decide l to) ps = decide_rule s q l to ≡ Some ps
+Given w s q (OnTerm r t) ps = term_rule w.tables.adts r s q t ≡ Some ps
 Given w s q (Divide t u) ps = division_rule s q t u ≡ Some ps
 Given w s q (Instantiate l ts) ps = instance_rule s q l ts ≡ Some ps
+Given w s q (Unpack l x) ps = IsNew x q × (unpack_rule s q l x ≡ Some ps)
 Given w s q (ByVariants t names) ps = AllNew names q × (variants_rule w.tables.adts s q t names ≡ Some ps)
 Given w s q (Induct x names) ps = AllNew names q × (free_in_hyps x q.hyps ≡ false) × (induction_rule w.tables.adts s q x names ≡ Some ps)
 
@@ -47,9 +51,11 @@ given w s q step ps (by_goal e) = e
 given w s q step ps (by_hypothesis e) = e
 given w s q step ps (by_two e) = e
 given w s q step ps (by_rewriting e) = e
+given w s q step ps (by_deciding e) = e
 given w s q step ps (by_term e) = e
 given w s q step ps (by_division e) = e
 given w s q step ps (by_instance e) = e
+given w s q step ps (by_unpacking new e) = (new, e)
 given w s q step ps (by_variants new e) = (new, e)
 given w s q step ps (by_induction new free e) = (new, free, e)
 
@@ -70,9 +76,11 @@ once w s q (OnGoal r) ps rs g h = same_premises (goal_rule r s q) ps rs g h
 once w s q (OnHypothesis r l) ps rs g h = same_premises (hypothesis_rule r s l q) ps rs g h
 once w s q (OnTwo r l m) ps rs g h = same_premises (pair_rule r s l m q) ps rs g h
 once w s q (Rewrite r) ps rs g h = same_premises (rewrite_rule r s q) ps rs g h
-once w s q (OnTerm r t) ps rs g h = same_premises (term_rule r s q t) ps rs g h
+once w s q (Decide l to) ps rs g h = same_premises (decide_rule s q l to) ps rs g h
+once w s q (OnTerm r t) ps rs g h = same_premises (term_rule w.tables.adts r s q t) ps rs g h
 once w s q (Divide t u) ps rs g h = same_premises (division_rule s q t u) ps rs g h
 once w s q (Instantiate l ts) ps rs g h = same_premises (instance_rule s q l ts) ps rs g h
+once w s q (Unpack l x) ps rs g h = same_premises (unpack_rule s q l x) ps rs g.1 h.1
 once w s q (ByVariants t names) ps rs g h = same_premises (variants_rule w.tables.adts s q t names) ps rs g.1 h.1
 once w s q (Induct x names) ps rs g h = same_premises (induction_rule w.tables.adts s q x names) ps rs g.2 h.2
 
@@ -118,9 +126,11 @@ given_is_narrow w s q (OnGoal r) ps ms e g p = absurd (cc)
 given_is_narrow w s q (OnHypothesis r l) ps ms e g p = absurd (cc)
 given_is_narrow w s q (OnTwo r l m) ps ms e g p = absurd (cc)
 given_is_narrow w s q (Rewrite r) ps ms e g p = absurd (cc)
+given_is_narrow w s q (Decide l to) ps ms e g p = absurd (cc)
 given_is_narrow w s q (OnTerm r t) ps ms e g p = absurd (cc)
 given_is_narrow w s q (Divide t u) ps ms e g p = absurd (cc)
 given_is_narrow w s q (Instantiate l ts) ps ms e g p = absurd (cc)
+given_is_narrow w s q (Unpack l x) ps ms e g p = absurd (cc)
 given_is_narrow w s q (ByVariants t names) ps ms e g p = absurd (cc)
 given_is_narrow w s q (Induct x names) ps ms e g p = absurd (cc)
 given_is_narrow w s q (Lin ns) ps ms e g p = let same : ns ≡ ms = cc in closed_is_narrow q ms (subst (λ l. Certifies q l) same g.1) p

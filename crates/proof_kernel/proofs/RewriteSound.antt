@@ -4,18 +4,12 @@ use Rattle.std.specs.Option.{option_map}
 use Rattle.text_core.specs.declared.name.Name.{Name}
 use Rattle.logic_term.specs.declared.kinds.Label2.{Label2}
 use Rattle.logic_term.specs.Canonical.{above_free}
-use Rattle.logic_term.specs.Free.{free}
 use Rattle.logic_term.specs.Meaning.{Structure, Env, with_value, Means, Holds}
-use Rattle.logic_term.specs.Placed.{itself}
 use Rattle.logic_term.specs.Same.{same_term}
 use Rattle.logic_term.specs.Subst.{subst as numbered}
 use Rattle.logic_term.specs.Term.{equal, Term, apply, no_terms, and_term, is_equal}
 use Rattle.logic_term.specs.Value.{Value}
 use Rattle.logic_term.proofs.Alike.{sure_map, Alike, alike, alike_back, alike_then, yes_alike}
-use Rattle.logic_term.proofs.CanonicalLaw.{free_below, reduced_means}
-use Rattle.logic_term.proofs.Coincide.{agree_new}
-use Rattle.logic_term.proofs.FreeLaw.{coincide_free}
-use Rattle.logic_term.proofs.PlacedLaw.{itself_means}
 use Rattle.logic_term.proofs.SameLaw.{same_term_equal}
 use Rattle.logic_term.proofs.Truth.{holds_equal}
 use Rattle.logic_term.proofs.Unique.{has_value}
@@ -25,10 +19,10 @@ use Rattle.proof_kernel.specs.declared.step.Direction.TheVariants.{Forward, Back
 use Rattle.proof_kernel.specs.declared.step.Rewriting.{Rewriting}
 use Rattle.proof_kernel.specs.declared.step.Target.{Target}
 use Rattle.proof_kernel.specs.declared.step.Target.TheVariants.{Goal, Hyp}
-use Rattle.proof_kernel.specs.Exchanged.{exchanged}
+use Rattle.proof_kernel.specs.Exchanged.{Instead, put, changed_from}
 use Rattle.proof_kernel.specs.RewriteRules.{for_each, past, rewritten, sides, changing, rewrite_rule}
 use Rattle.proof_kernel.specs.Rules.{hypothesis}
-use Rattle.proof_kernel.proofs.ExchangeLaw.{BindsFrom, placed_binds, exchanged_means}
+use Rattle.proof_kernel.proofs.ExchangeLaw.{unused, numbered_alike, Fits, changed_means}
 use Rattle.proof_kernel.proofs.FormsFound.{same_some, picked, mapped, rewriting_found}
 use Rattle.proof_kernel.proofs.GoalSound.{these_true}
 use Rattle.proof_kernel.proofs.PairSound.{adding_sound}
@@ -46,33 +40,24 @@ module _ (S : Structure) where
       (λ v p n. has_value S a ρ (λ (x : (w : Value) × Means S a ρ w). same x.0 v x.1 p (λ e. n (subst (λ w. Means S a ρ w) e x.1))))
 
   module _ (a b t : Term) (n : ℕ) (in_t : above_free [] t ≤ n) (in_a : above_free [] a ≤ n) (in_b : above_free [] b ≤ n) where
-    -- a value at a name that is past the free ones
-    unused : (u : Term) (ρ : Env) (x : Name) (w : Value) → above_free [] u ≤ n → n ≤ x.0 → Alike (Means S u ρ) (Means S u (with_value ρ x w))
-    unused u ρ x w l m = coincide_free S u ρ (with_value ρ x w) (λ y e. let f : y.0 < above_free [] u = free_below [] u y e refl in agree_new n ρ x w m y (omega (arith, f, l)))
-
     abbrev Same : Env → Type 0
     Same ρ = Alike (Means S a ρ) (Means S b ρ)
 
     stays : (ρ : Env) (x : Name) (w : Value) → Same ρ → n ≤ x.0 → Same (with_value ρ x w)
-    stays ρ x w e l = alike_then _ _ _ (alike_back _ _ (unused a ρ x w in_a l)) (alike_then _ _ _ e (unused b ρ x w in_b l))
+    stays ρ x w e l = alike_then _ _ _ (alike_back _ _ (unused S a n ρ x w in_a l)) (alike_then _ _ _ e (unused S b n ρ x w in_b l))
 
-    right : (ρ : Env) → Same ρ → (k : ℕ) → n ≤ k → (u v : Term) → for_each a b k u ≡ Some v → Alike (Means S u ρ) (Means S v ρ)
-    right ρ e k l u v is =
-        let p = picked (same_term u (numbered k [] a)) b v is in
-        let own : Alike (Means S (numbered k [] a) ρ) (Means S a ρ) = itself_means S false a k ρ (λ x f. let m : x.0 < above_free [] a = free_below [] a x f refl in omega (arith, m, in_a, l)) in
+    right : (ρ : Env) → Same ρ → (k : ℕ) → n ≤ k → (u : Term) (i : Instead) → for_each a b k u ≡ Some i → Fits S i u ρ
+    right ρ e k l u i is =
+        let p = picked (same_term u (numbered k [] a)) (put b) i is in
+        let own : Alike (Means S (numbered k [] a) ρ) (Means S a ρ) = numbered_alike S a k ρ (omega (arith, in_a, l)) in
         let found : Alike (Means S u ρ) (Means S a ρ) = subst (λ w. Alike (Means S w ρ) (Means S a ρ)) (sym (same_term_equal u (numbered k [] a) p.0)) own in
-        subst (λ w. Alike (Means S u ρ) (Means S w ρ)) p.1 (alike_then _ _ _ found e)
+        subst (λ (j : Instead). Fits S j u ρ) p.1 (alike_then _ _ _ found e)
 
-    exchanged_alike : (ρ : Env) → Same ρ → Alike (Means S t ρ) (Means S (exchanged (for_each a b) n (numbered n [] t)) ρ)
-    exchanged_alike ρ e =
-        let own : Alike (Means S (numbered n [] t) ρ) (Means S t ρ) = itself_means S false t n ρ (λ x f. let l : x.0 < above_free [] t = free_below [] t x f refl in omega (arith, l, in_t)) in
-        let binds : BindsFrom n (numbered n [] t) = placed_binds t n n itself (omega arith) (λ x k. tt) in
-        alike_then _ _ _ (alike_back _ _ own) (exchanged_means S (for_each a b) n Same right stays (numbered n [] t) n ρ (omega arith) e binds)
+    changed_alike : (ρ : Env) → Same ρ → Alike (Means S t ρ) (Means S (changed_from (for_each a b) n t) ρ)
+    changed_alike ρ e = changed_means S (for_each a b) n Same right stays t ρ in_t e
 
   rewritten_alike : (a b t : Term) (ρ : Env) → Alike (Means S a ρ) (Means S b ρ) → Alike (Means S t ρ) (Means S (rewritten a b t) ρ)
-  rewritten_alike a b t ρ e =
-      alike_then _ _ _ (exchanged_alike a b t (past a b t) (omega arith) (omega arith) (omega arith) ρ e)
-      (alike_back _ _ (reduced_means S (exchanged (for_each a b) (past a b t) (numbered (past a b t) [] t)) ρ))
+  rewritten_alike a b t ρ e = changed_alike a b t (past a b t) (omega arith) (omega arith) (omega arith) ρ e
 
   -- ---- the rule
 
@@ -84,13 +69,15 @@ module _ (S : Structure) where
   directed d t ab ρ e h = absurd (cc)
 
   module _ (s : ℕ) (q : Sequent) (ps : List Sequent) (h : AllTrueAt S ps) where
-    changed_sound : (to : Target) (a b : Term) (ρ : Env) → changing s q to (rewritten a b) ≡ Some ps → InSorts S q.vars ρ → AllHold S q.hyps ρ → Alike (Means S a ρ) (Means S b ρ) → Holds S q.goal ρ
-    changed_sound Goal a b ρ e z k same = (yes_alike _ _ (rewritten_alike a b q.goal ρ same)).1 ((these_true S _ ps e h).0 ρ z k)
-    changed_sound (Hyp l) a b ρ e z k same = adding_sound S s q ps h (option_map (rewritten a b) (hypothesis l q.hyps)) ρ e z k (λ u is.
-        let m = mapped (rewritten a b) (hypothesis l q.hyps) u is in
-        subst (λ v. Holds S v ρ) m.2 ((yes_alike _ _ (rewritten_alike a b m.0 ρ same)).0 (held S l q.hyps m.0 ρ m.1 k)))
+    -- what has the values of each term is put
+    pub changed_sound : (to : Target) (f : Term → Term) (ρ : Env) → changing s q to f ≡ Some ps → InSorts S q.vars ρ → AllHold S q.hyps ρ → ((t : Term) → Alike (Means S t ρ) (Means S (f t) ρ)) → Holds S q.goal ρ
+    changed_sound Goal f ρ e z k same = (yes_alike _ _ (same q.goal)).1 ((these_true S _ ps e h).0 ρ z k)
+    changed_sound (Hyp l) f ρ e z k same = adding_sound S s q ps h (option_map f (hypothesis l q.hyps)) ρ e z k (λ u is.
+        let m = mapped f (hypothesis l q.hyps) u is in
+        subst (λ v. Holds S v ρ) m.2 ((yes_alike _ _ (same m.0)).0 (held S l q.hyps m.0 ρ m.1 k)))
 
     pub rewrite_sound : (r : Rewriting) → rewrite_rule r s q ≡ Some ps → IsTrueAt S q
     rewrite_sound r e ρ z k =
         let f = rewriting_found r s q ps e in
-        changed_sound r.target f.1.0 f.1.1 ρ f.4 z k (directed r.direction f.0 f.1 ρ f.3 (held S r.equation q.hyps f.0 ρ f.2 k))
+        let same : Alike (Means S f.1.0 ρ) (Means S f.1.1 ρ) = directed r.direction f.0 f.1 ρ f.3 (held S r.equation q.hyps f.0 ρ f.2 k) in
+        changed_sound r.target (rewritten f.1.0 f.1.1) ρ f.4 z k (λ t. rewritten_alike f.1.0 f.1.1 t ρ same)

@@ -7,11 +7,12 @@ use Rattle.text_core.specs.declared.refusal.SourceError.{SourceError}
 use Rattle.source_kinds.specs.declared.kinds.IntKind.{IntKind}
 use Rattle.source_kinds.specs.Range.{lowest, highest}
 use Rattle.source_trees.specs.Pterm.{Pterm}
+use Rattle.logic_term.specs.declared.declaration.AdtDecl.{AdtDecl}
 use Rattle.logic_term.specs.Meaning.{Structure, Env, Means, Holds}
 use Rattle.logic_term.specs.Sort.{HasSort, instance}
 use Rattle.logic_term.specs.Sorted as sorts
 use Rattle.logic_term.specs.Free.{free, free_in_some}
-use Rattle.logic_term.specs.Term.{Term, Terms, var, lit, truth, apply, bind, no_terms, and_term, model}
+use Rattle.logic_term.specs.Term.{some, Term, Terms, var, lit, truth, apply, bind, no_terms, and_term, model}
 use Rattle.logic_term.specs.Theory.{Theory, nothing_declared, declared}
 use Rattle.logic_term.specs.Ty.{Ty, Tys, int, bool, math_int}
 use Rattle.logic_term.specs.Value.{Value, Number, integer_of}
@@ -20,19 +21,24 @@ use Rattle.logic_term.proofs.FreeLaw.{same_name, same_test, or_cases}
 use Rattle.logic_term.proofs.SortLaw.{int_value}
 use Rattle.logic_term.proofs.SortParts.{parts}
 use Rattle.logic_term.proofs.SortSound.{sort_sound}
-use Rattle.logic_term.proofs.Truth.{holds_not, holds_at_most, computes_model}
+use Rattle.logic_term.proofs.Truth.{holds_not, holds_exists, holds_at_most, computes_model}
 use Rattle.logic_term.proofs.Unique.{has_value}
 use Rattle.logic_elab.specs.declared.scope.Symbol.{Symbol}
 use Rattle.logic_elab.specs.declared.sorted.SortedTerm.{SortedTerm}
 use Rattle.logic_elab.specs.Laws.{GivesSorts}
-use Rattle.logic_elab.specs.Sorts.{is_math_int}
+use Rattle.logic_elab.specs.Sorts.{is_math_int, same_ty}
+use Rattle.logic_elab.proofs.SameSorts.{equal_types}
 use Rattle.logic_elab.proofs.SortLaw.{terms_are_sorted}
 use Rattle.proof_kernel.specs.Sequent.{Sequent, InSorts, AllHold, IsTrueAt, AllTrueAt}
 use Rattle.proof_kernel.specs.declared.step.TermRule.{TermRule}
-use Rattle.proof_kernel.specs.declared.step.TermRule.TheVariants.{Cut, On, Range}
+use Rattle.proof_kernel.specs.declared.step.TermRule.TheVariants.{Cut, On, Range, Witness, Eta}
 use Rattle.proof_kernel.specs.Rules.{sort_of}
-use Rattle.proof_kernel.specs.TermRules.{symbol, scope_of, if_sorted, term_at, assuming_all, formula, shown_first, true_or_false, bounds, bounds_at, by_term, by_term_if, term_rule, division, number_if, division_of, division_rule}
+use Rattle.proof_kernel.specs.TermRules.{symbol, scope_of, if_sorted, term_at, at_term, witnessed, assuming_all, formula, shown_first, true_or_false, bounds, bounds_at, by_term, by_term_if, term_rule, division, number_if, division_of, division_rule}
+use Rattle.proof_kernel.specs.EtaRule.{eta_at}
+use Rattle.proof_kernel.specs.GoalRules.{to_show}
+use Rattle.proof_kernel.proofs.AtTerm.{at_term_of}
 use Rattle.proof_kernel.proofs.DivisionSound.{division_holds}
+use Rattle.proof_kernel.proofs.EtaSound.{eta_holds}
 use Rattle.proof_kernel.proofs.Facts.{AllTrue, surely_true, reduced_hold}
 use Rattle.proof_kernel.proofs.FormsFound.{same_some, picked}
 use Rattle.proof_kernel.proofs.GoalSound.{these_true}
@@ -142,17 +148,33 @@ module _ (S : Structure) (s : ℕ) (q : Sequent) (ps : List Sequent) (h : AllTru
       let fails : Holds S f ρ → ⊥ = λ y. g.0 ρ z (hyps_more S q.hyps _ ρ k (y, tt)) n in
       g.1.0 ρ z (hyps_more S q.hyps _ ρ k ((holds_not S f ρ).1 fails, tt)) n
 
-  by_term_sound : (r : TermRule) (t : Pterm) (a : SortedTerm) → term_at q t ≡ Some a → by_term r s q a ≡ Some ps → IsTrueAt S q
-  by_term_sound Cut t a p e = cut_sound (formula a) e
-  by_term_sound On t a p e = on_sound (formula a) e
-  by_term_sound Range t a p e = assuming_sound (bounds_at a.sort a.term) e (λ ts f ρ z k. bounds_at_hold S ρ a.sort a.term ts f (value_sorted S q ρ z t a p))
+  -- an existential formula is true that is true at a term of the sort
+  witnessed_holds : (a : SortedTerm) (g u : Term) (ρ : Env) → witnessed a g ≡ Some u → ((v : Value) → Means S a.term ρ v → HasSort (declared S.theory) v (instance S.types a.sort)) → Holds S u ρ → Holds S g ρ
+  witnessed_holds a (bind some x r t) u ρ e is k =
+      let c = picked (same_ty a.sort r) (at_term x a.term t) u e in
+      (holds_exists S x r t ρ).1 (λ none. has_value S a.term ρ (λ (w : (v : Value) × Means S a.term ρ v).
+      none w.0 (subst (λ (o : Ty). HasSort (declared S.theory) w.0 (instance S.types o)) (equal_types a.sort r c.0) (is w.0 w.1))
+      (at_term_of S x a.term t ρ w.0 (exact S ρ a.term (integer_of w.0) (w.0, w.1, refl)) (subst (λ (v : Term). Holds S v ρ) (sym c.1) k))))
+  witnessed_holds a g u ρ e is k = absurd (cc)
 
-  by_term_if_sound : (r : TermRule) (t : Pterm) (o : Option SortedTerm) → term_at q t ≡ o → by_term_if r s q o ≡ Some ps → IsTrueAt S q
-  by_term_if_sound r t None p e = absurd (cc)
-  by_term_if_sound r t (Some a) p e = by_term_sound r t a p e
+  witness_sound : (t : Pterm) (a : SortedTerm) → term_at q t ≡ Some a → (o : Option Term) → witnessed a q.goal ≡ o → to_show q o ≡ Some ps → IsTrueAt S q
+  witness_sound t a p None c e = absurd (cc)
+  witness_sound t a p (Some u) c e = λ ρ z k. witnessed_holds a q.goal u ρ c (value_sorted S q ρ z t a p) ((these_true S _ ps e h).0 ρ z k)
 
-  pub term_sound : (r : TermRule) (t : Pterm) → term_rule r s q t ≡ Some ps → IsTrueAt S q
-  term_sound r t e = by_term_if_sound r t (term_at q t) refl e
+  module _ (adts : List AdtDecl) (is : S.theory ≡ record { adts = adts }) where
+    by_term_sound : (r : TermRule) (t : Pterm) (a : SortedTerm) → term_at q t ≡ Some a → by_term adts r s q a ≡ Some ps → IsTrueAt S q
+    by_term_sound Cut t a p e = cut_sound (formula a) e
+    by_term_sound On t a p e = on_sound (formula a) e
+    by_term_sound Range t a p e = assuming_sound (bounds_at a.sort a.term) e (λ ts f ρ z k. bounds_at_hold S ρ a.sort a.term ts f (value_sorted S q ρ z t a p))
+    by_term_sound Witness t a p e = witness_sound t a p (witnessed a q.goal) refl e
+    by_term_sound Eta t a p e = assuming_sound (eta_at adts a) e (λ ts f ρ z k. eta_holds S adts is ρ a ts f (value_sorted S q ρ z t a p))
+
+    by_term_if_sound : (r : TermRule) (t : Pterm) (o : Option SortedTerm) → term_at q t ≡ o → by_term_if adts r s q o ≡ Some ps → IsTrueAt S q
+    by_term_if_sound r t None p e = absurd (cc)
+    by_term_if_sound r t (Some a) p e = by_term_sound r t a p e
+
+    pub term_sound : (r : TermRule) (t : Pterm) → term_rule adts r s q t ≡ Some ps → IsTrueAt S q
+    term_sound r t e = by_term_if_sound r t (term_at q t) refl e
 
   -- ---- division
 

@@ -14,7 +14,6 @@ use Rattle.logic_term.specs.Erased.{erased, all_erased}
 use Rattle.logic_term.specs.Free.{free}
 use Rattle.logic_term.specs.Meaning.{Each, Structure, Env, with_value, Means, Argument, Holds}
 use Rattle.logic_term.specs.Sort.{Declarations, HasSort, HaveSorts, instance, instances}
-use Rattle.logic_term.specs.Subst.{with_terms}
 use Rattle.logic_term.specs.Term.{Term, Terms, var, count, is_equal}
 use Rattle.logic_term.specs.TermView.{terms_of}
 use Rattle.logic_term.specs.Theory.{Theory, field_ty, fields_of, variant_of, declared}
@@ -26,7 +25,6 @@ use Rattle.logic_term.proofs.CanonicalLaw.{reduced_means}
 use Rattle.logic_term.proofs.Coincide.{with_same}
 use Rattle.logic_term.proofs.Erased.{has_erased, has_type}
 use Rattle.logic_term.proofs.FreeLaw.{coincide_free, same_name, same_test}
-use Rattle.logic_term.proofs.PlacedLaw.{with_terms_means}
 use Rattle.logic_term.proofs.SortParts.{parts, all_parts, instance_instance}
 use Rattle.logic_term.proofs.Truth.{Exactly, holds_equal}
 use Rattle.logic_term.proofs.Unique.{single, has_value}
@@ -36,8 +34,9 @@ use Rattle.logic_elab.proofs.SameSorts.{equal_types}
 use Rattle.source_trees.specs.Pterm.{Pterm}
 use Rattle.proof_kernel.specs.Sequent.{Sequent, InSorts, AllHold, IsTrueAt, AllTrueAt}
 use Rattle.proof_kernel.specs.Rules.{sort_of, free_in_hyps, AreNew, labelled, without_variable}
-use Rattle.proof_kernel.specs.TermRules.{term_at}
-use Rattle.proof_kernel.specs.VariantRules.{Enum, enum_in, enum_of, field_sort, Case, case_of, cases_in, case_term, AllNew, By, analysis, induction, at_term, at_each, premise_of, in_variants, on_sorted, variants_rule, induct_sorted, induction_rule}
+use Rattle.proof_kernel.specs.TermRules.{term_at, at_term}
+use Rattle.proof_kernel.specs.VariantRules.{Enum, enum_in, enum_of, field_sort, Case, case_of, cases_in, case_term, AllNew, By, analysis, induction, at_each, premise_of, in_variants, on_sorted, variants_rule, induct_sorted, induction_rule}
+use Rattle.proof_kernel.proofs.AtTerm.{at_term_to, at_term_of}
 use Rattle.proof_kernel.proofs.Each.{Each as All}
 use Rattle.proof_kernel.proofs.FormsFound.{same_some, mapped}
 use Rattle.proof_kernel.proofs.IntroSound.{apart, among_new, not_both, AreApart, new_apart, Off, off_more, sorts_off, hyps_off}
@@ -215,20 +214,6 @@ module _ (S : Structure) where
 
   -- ---- induction
 
-  -- a formula at a term for a variable is the formula where the variable has the term's value
-  at_term_means : (x : Name) (u t : Term) (σ : Env) (w : Value) → Exactly (Means S u σ) w → Alike (Means S (with_terms (record { name = x; by = u } ∷ []) t) σ) (Means S t (with_value σ x w))
-  at_term_means x u t σ w e = with_terms_means S t σ (with_value σ x w) (record { name = x; by = u } ∷ []) (λ y f. by y (y.0 == x.0))
-    where
-      by : (y : Name) (b : Bool) → Alike (Means S (cond b u (var y)) σ) (λ v. v ≡ cond b w (σ y))
-      by y true = e
-      by y false = alike_same _
-
-  at_term_to : (x : Name) (u t : Term) (σ : Env) (w : Value) → Exactly (Means S u σ) w → Holds S t (with_value σ x w) → Holds S (at_term x u t) σ
-  at_term_to x u t σ w e h = (yes_alike _ _ (reduced_means S (with_terms (record { name = x; by = u } ∷ []) t) σ)).1 ((yes_alike _ _ (at_term_means x u t σ w e)).1 h)
-
-  at_term_of : (x : Name) (u t : Term) (σ : Env) (w : Value) → Exactly (Means S u σ) w → Holds S (at_term x u t) σ → Holds S t (with_value σ x w)
-  at_term_of x u t σ w e h = (yes_alike _ _ (at_term_means x u t σ w e)).0 ((yes_alike _ _ (reduced_means S (with_terms (record { name = x; by = u } ∷ []) t) σ)).0 h)
-
   module _ (q : Sequent) (x : Name) (r : Ty) (ρ : Env) where
     -- the goal is true of the value, if it is of the sort
     abbrev TrueOf : Value → Type 0
@@ -265,7 +250,7 @@ module _ (S : Structure) where
         by true e others =
             let of_erased : HasSort Δ (σ y) (instance S.types (erased r)) = subst (λ (u : Ty). HasSort Δ (σ y) (instance S.types u)) (equal_types s (erased r) e) z.0 in
             let typed : HasSort Δ v (instance S.types r) = of_sort Δ S.types v r (subst (λ (u : Value). HasSort Δ u (instance S.types (erased r))) (sym value) of_erased) in
-            (at_term_to x (var y) q.goal σ v (subst (λ (u : Value). Alike (λ w. w ≡ σ y) (λ w. w ≡ u)) (sym value) (alike_same _)) (move v (ih.0 typed)), others (suc k))
+            (at_term_to S x (var y) q.goal σ v (subst (λ (u : Value). Alike (λ w. w ≡ σ y) (λ w. w ≡ u)) (sym value) (alike_same _)) (move v (ih.0 typed)), others (suc k))
 
     induction_true : (s : ℕ) (d : AdtId) (ts : Tys) (k : ℕ) (xs : List Name) (fs : List FieldDecl) (vs : Values) → AreNew xs q → length xs ≡ length fs → InSorts S q.vars ρ → AllHold S q.hyps ρ
         → HaveSorts Δ vs (instances (instances S.types ts) (tys_of (map field_ty fs))) → TrueOfAll vs → IsTrueAt S (premise_of (induction x r) s q d (case_of ts k xs fs)) → Holds S q.goal (with_value ρ x (Made (Variant d k) vs))
@@ -279,7 +264,7 @@ module _ (S : Structure) where
         let shown : Holds S (at_term x case q.goal) σ = prem σ (sorts_join (without_variable x q.vars) _ σ (without_in x q.vars σ (vars_stay q xs new ρ σ off z)) fields.0)
         (hyps_more S q.hyps _ σ (hyps_stay q xs new ρ σ off h)
         (each_holds σ (λ v. (yes_alike _ _ (moved xs σ v new off)).0) s 1 xs (map (field_sort ts) fs) vs fields.1 fields.0 ih)) in
-        (yes_alike _ _ (moved xs σ value new off)).1 (at_term_of x case q.goal σ value here shown)
+        (yes_alike _ _ (moved xs σ value new off)).1 (at_term_of S x case q.goal σ value here shown)
 
   -- ---- the rules
 

@@ -19,7 +19,8 @@ use Rattle.logic_elab.specs.Sorts.{same_ty}
 use Rattle.proof_kernel.specs.Sequent.{Sequent}
 use Rattle.proof_kernel.specs.Intro.{declaring}
 use Rattle.proof_kernel.specs.Rules.{AreNew, removing, with_goal, with_hyps}
-use Rattle.proof_kernel.specs.VariantRules.{enum_of, Case, case_of, cases_in, By, analysis, induction, variant_term, premise_of, at_term, at_each, with_variables, AllNew}
+use Rattle.proof_kernel.specs.TermRules.{at_term}
+use Rattle.proof_kernel.specs.VariantRules.{enum_of, Case, case_of, cases_in, By, analysis, induction, variant_term, premise_of, at_each, with_variables, AllNew}
 
 pub made_is_no_enum : (adts : List AdtDecl) (op : TyUnary) (t : Ty) → enum_of adts (made_by op t) ≡ None
 made_is_no_enum adts unary.Boxed t = refl

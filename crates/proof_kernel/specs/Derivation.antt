@@ -14,8 +14,9 @@ use Rattle.proof_kernel.specs.declared.step.GoalRule.{GoalRule}
 use Rattle.proof_kernel.specs.declared.step.HypothesisRule.{HypothesisRule}
 use Rattle.proof_kernel.specs.declared.step.PairRule.{PairRule}
 use Rattle.proof_kernel.specs.declared.step.Rewriting.{Rewriting}
+use Rattle.proof_kernel.specs.declared.step.Target.{Target}
 use Rattle.proof_kernel.specs.declared.step.TermRule.{TermRule}
-use Rattle.proof_kernel.specs.declared.step.Step.TheVariants.{Intro, Hyp, Split, Lin, OnGoal, OnHypothesis, OnTwo, Rewrite, OnTerm, Divide, Instantiate, ByVariants, Induct}
+use Rattle.proof_kernel.specs.declared.step.Step.TheVariants.{Intro, Hyp, Split, Lin, OnGoal, OnHypothesis, OnTwo, Rewrite, Decide, OnTerm, Divide, Instantiate, Unpack, ByVariants, Induct}
 use Rattle.proof_kernel.specs.Sequent.{sequent_of}
 use Rattle.proof_kernel.specs.Setting.{Setting, setting_of}
 use Rattle.proof_kernel.specs.Linear.{Certifies}
@@ -23,11 +24,13 @@ use Rattle.proof_kernel.specs.GoalRules.{goal_rule}
 use Rattle.proof_kernel.specs.HypothesisRules.{hypothesis_rule}
 use Rattle.proof_kernel.specs.PairRules.{pair_rule}
 use Rattle.proof_kernel.specs.RewriteRules.{rewrite_rule}
+use Rattle.proof_kernel.specs.DecideRule.{decide_rule}
 use Rattle.proof_kernel.specs.TermRules.{term_rule, division_rule}
 use Rattle.proof_kernel.specs.Instances.{instance_rule}
+use Rattle.proof_kernel.specs.UnpackRule.{unpack_rule}
 use Rattle.source_trees.specs.Pterm.{Pterm}
 use Rattle.proof_kernel.specs.VariantRules.{AllNew, variants_rule, induction_rule}
-use Rattle.proof_kernel.specs.Rules.{hypothesis, free_in_hyps, with_goal, Intros, TakesSome, conjuncts}
+use Rattle.proof_kernel.specs.Rules.{hypothesis, free_in_hyps, with_goal, IsNew, Intros, TakesSome, conjuncts}
 
 -- step number s makes these premises of the sequent
 pub data Gives (w : Setting) (s : ℕ) (q : Sequent) : Step → List Sequent → Type 0 where
@@ -39,9 +42,11 @@ pub data Gives (w : Setting) (s : ℕ) (q : Sequent) : Step → List Sequent →
   by_hypothesis : {r : HypothesisRule} {l : Label2} {ps : List Sequent} → hypothesis_rule r s l q ≡ Some ps → Gives w s q (OnHypothesis r l) ps
   by_two : {r : PairRule} {l m : Label2} {ps : List Sequent} → pair_rule r s l m q ≡ Some ps → Gives w s q (OnTwo r l m) ps
   by_rewriting : {r : Rewriting} {ps : List Sequent} → rewrite_rule r s q ≡ Some ps → Gives w s q (Rewrite r) ps
-  by_term : {r : TermRule} {t : Pterm} {ps : List Sequent} → term_rule r s q t ≡ Some ps → Gives w s q (OnTerm r t) ps
+  by_deciding : {l : Label2} {to : Target} {ps : List Sequent} → decide_rule s q l to ≡ Some ps → Gives w s q (Decide l to) ps
+  by_term : {r : TermRule} {t : Pterm} {ps : List Sequent} → term_rule w.tables.adts r s q t ≡ Some ps → Gives w s q (OnTerm r t) ps
   by_division : {t u : Pterm} {ps : List Sequent} → division_rule s q t u ≡ Some ps → Gives w s q (Divide t u) ps
   by_instance : {l : Label2} {ts : List Pterm} {ps : List Sequent} → instance_rule s q l ts ≡ Some ps → Gives w s q (Instantiate l ts) ps
+  by_unpacking : {l : Label2} {x : Name} {ps : List Sequent} → IsNew x q → unpack_rule s q l x ≡ Some ps → Gives w s q (Unpack l x) ps
   by_variants : {t : Pterm} {names : List (List Name)} {ps : List Sequent} → AllNew names q → variants_rule w.tables.adts s q t names ≡ Some ps → Gives w s q (ByVariants t names) ps
   by_induction : {x : Name} {names : List (List Name)} {ps : List Sequent} → AllNew names q → free_in_hyps x q.hyps ≡ false → induction_rule w.tables.adts s q x names ≡ Some ps → Gives w s q (Induct x names) ps
 
@@ -55,9 +60,11 @@ CitedAreTrue w S (OnGoal r) = Unit {0}
 CitedAreTrue w S (OnHypothesis r l) = Unit {0}
 CitedAreTrue w S (OnTwo r l m) = Unit {0}
 CitedAreTrue w S (Rewrite r) = Unit {0}
+CitedAreTrue w S (Decide l to) = Unit {0}
 CitedAreTrue w S (OnTerm r t) = Unit {0}
 CitedAreTrue w S (Divide t u) = Unit {0}
 CitedAreTrue w S (Instantiate l ts) = Unit {0}
+CitedAreTrue w S (Unpack l x) = Unit {0}
 CitedAreTrue w S (ByVariants t names) = Unit {0}
 CitedAreTrue w S (Induct x names) = Unit {0}
 

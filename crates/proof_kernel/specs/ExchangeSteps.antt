@@ -1,14 +1,14 @@
 -- The walk that exchanges subterms, with stacks of what is to be done and of the terms that are made.
-use Rattle.std.specs.Prelude.{ℕ, suc, ◌+◌, ◌*◌, true, List, [], ◌∷◌, ◌++◌, length, map, reverse, Option, Some, None}
+use Rattle.std.specs.Prelude.{ℕ, suc, ◌+◌, ◌*◌, Bool, true, List, [], ◌∷◌, ◌++◌, length, map, reverse, Option, Some, None, if◌then◌else◌}
 use Rattle.text_core.specs.declared.name.Name.{Name}
 use Rattle.logic_term.specs.Tasks.{with_last}
-use Rattle.logic_term.specs.Term.{Operator, Quantifier, Term, truth, apply, bind}
+use Rattle.logic_term.specs.Term.{Operator, Quantifier, choice, Term, truth, apply, bind, no_terms, and_term}
 use Rattle.logic_term.specs.TermView.{terms_of}
 use Rattle.logic_term.specs.Ty.{Ty}
 use Rattle.logic_term.specs.Walk.{parts, weight}
 use Rattle.proof_kernel.specs.declared.exchange.Task.{Task}
 use Rattle.proof_kernel.specs.declared.exchange.Task.TheVariants as task
-use Rattle.proof_kernel.specs.Exchanged.{Exchange, exchanged}
+use Rattle.proof_kernel.specs.Exchanged.{Exchange, Instead, put, side, exchanged}
 
 -- a term at a depth is next; the last terms, one for each direct part of a term, become its parts
 pub data Step : Type 0 where
@@ -28,14 +28,25 @@ abbrev pub depth_in : ℕ → Term → ℕ
 depth_in n (bind q x s t) = suc n
 depth_in n t = n
 
--- what there is to do for a term, where there may be another in its place, and what is made at once
-abbrev pub steps_of : Option Term → ℕ → Term → List Step
-steps_of None n t = map (enter (depth_in n t)) (parts t) ++ remake t ∷ []
-steps_of (Some u) n t = []
+-- what there is to do for the parts of a term, and for the term itself
+abbrev pub part_steps : ℕ → Term → List Step
+part_steps n t = map (enter (depth_in n t)) (parts t) ++ remake t ∷ []
 
-abbrev pub made_of : Option Term → List Term
+-- for a side of an `if`
+abbrev pub side_steps : Bool → ℕ → Term → List Step
+side_steps first n (apply choice (and_term c (and_term a (and_term b no_terms)))) = enter n (if first then a else b) ∷ []
+side_steps first n t = part_steps n t
+
+-- for a term in whose place there may be something else, and what is made at once
+abbrev pub steps_of : Option Instead → ℕ → Term → List Step
+steps_of None n t = part_steps n t
+steps_of (Some (put u)) n t = []
+steps_of (Some (side first)) n t = side_steps first n t
+
+abbrev pub made_of : Option Instead → List Term
 made_of None = []
-made_of (Some u) = u ∷ []
+made_of (Some (put u)) = u ∷ []
+made_of (Some (side first)) = []
 
 abbrev pub applied : Operator → List Term → Term
 applied op us = apply op (terms_of us)

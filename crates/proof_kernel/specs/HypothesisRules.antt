@@ -3,7 +3,7 @@ use Rattle.std.specs.Prelude.{ℕ, Bool, true, false, List, [], ◌∷◌, ◌++
 use Rattle.text_core.specs.declared.name.Name.{Name}
 use Rattle.logic_term.specs.declared.kinds.Label2.{Label2}
 use Rattle.logic_term.specs.Ty.{Ty}
-use Rattle.logic_term.specs.Term.{denied, equal, both, either, implied, Term, truth, apply, no_terms, and_term, not, and, or, implies}
+use Rattle.logic_term.specs.Term.{denied, equal, both, either, implied, choice, Quantifier, every, some, Term, truth, apply, bind, no_terms, and_term, not, and, or, implies}
 use Rattle.proof_kernel.specs.Sequent.{Sequent}
 use Rattle.proof_kernel.specs.declared.step.HypothesisRule.{HypothesisRule}
 use Rattle.proof_kernel.specs.declared.step.HypothesisRule.TheVariants.{Cases, Absurd, Drop, Revert, Back, Inject, Differ}
@@ -31,12 +31,17 @@ disjuncts t = t ∷ []
 abbrev pub alone : Term → List Term
 alone t = t ∷ []
 
+abbrev pub other_quantifier : Quantifier → Quantifier
+other_quantifier every = some
+other_quantifier some = every
+
 -- the denial of the formula, pushed inward by one level
 abbrev pub pushed : Term → Option Term
 pushed (apply both (and_term a (and_term b no_terms))) = Some (or (not a) (not b))
 pushed (apply either (and_term a (and_term b no_terms))) = Some (and (not a) (not b))
 pushed (apply implied (and_term a (and_term b no_terms))) = Some (and a (not b))
 pushed (apply denied (and_term a no_terms)) = Some a
+pushed (bind q x s t) = Some (bind (other_quantifier q) x s (not t))
 pushed t = None
 
 -- one case, of this formula alone
@@ -52,9 +57,14 @@ value_cases false a b = (a ∷ not b ∷ []) ∷ (not a ∷ b ∷ []) ∷ []
 abbrev pub if_formulas : List (Name × Ty) → Bool → Term → Term → Option (List (List Term))
 if_formulas vars same a b = if are_formulas vars a b then Some (value_cases same a b) else None
 
+-- the condition of an `if` is true, and its first side is, or not; or it is false, and its second side is, or not
+abbrev pub choice_cases : Bool → Term → Term → Term → List (List Term)
+choice_cases holds c a b = (c ∷ (if holds then a else not a) ∷ []) ∷ (not c ∷ (if holds then b else not b) ∷ []) ∷ []
+
 -- the cases of a denial
 abbrev pub denied_cases : List (Name × Ty) → Term → Option (List (List Term))
 denied_cases vars (apply equal (and_term a (and_term b no_terms))) = if_formulas vars false a b
+denied_cases vars (apply choice (and_term c (and_term a (and_term b no_terms)))) = Some (choice_cases false c a b)
 denied_cases vars t = one_case (pushed t)
 
 -- the formulas of each case, by the form of what is taken apart; one case at least is so where that is true
@@ -63,6 +73,7 @@ cases_of vars (apply both (and_term a (and_term b no_terms))) = Some ((conjuncts
 cases_of vars (apply either (and_term a (and_term b no_terms))) = Some (map alone (disjuncts a ++ disjuncts b))
 cases_of vars (apply implied (and_term a (and_term b no_terms))) = Some (alone (not a) ∷ alone b ∷ [])
 cases_of vars (apply equal (and_term a (and_term b no_terms))) = if_formulas vars true a b
+cases_of vars (apply choice (and_term c (and_term a (and_term b no_terms)))) = Some (choice_cases true c a b)
 cases_of vars (apply denied (and_term a no_terms)) = denied_cases vars a
 cases_of vars t = None
 

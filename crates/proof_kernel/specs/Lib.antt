@@ -1,9 +1,12 @@
 pub mod Accepts
 pub mod BackRule
+pub mod ChangeCode
 pub mod ConstructorRules
+pub mod DecideRule
 pub mod Derivation
 pub mod Dropped
 pub mod ErasedBound
+pub mod EtaRule
 pub mod ExchangeSteps
 pub mod Exchanged
 pub mod GoalRules
@@ -33,5 +36,6 @@ pub mod Setting
 pub mod SortTests
 pub mod Steps
 pub mod TermRules
+pub mod UnpackRule
 pub mod VariantCode
 pub mod VariantRules

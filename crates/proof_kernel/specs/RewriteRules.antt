@@ -2,7 +2,6 @@
 use Rattle.std.specs.Prelude.{ℕ, max, List, [], ◌∷◌, Option, Some, None, if◌then◌else◌}
 use Rattle.std.specs.Option.{option_map}
 use Rattle.logic_term.specs.Canonical.{above_free}
-use Rattle.logic_term.specs.Normal.{reduced}
 use Rattle.logic_term.specs.Same.{same_term}
 use Rattle.logic_term.specs.Subst.{subst}
 use Rattle.logic_term.specs.Term.{equal, Term, apply, no_terms, and_term}
@@ -12,7 +11,7 @@ use Rattle.proof_kernel.specs.declared.step.Direction.TheVariants.{Forward, Back
 use Rattle.proof_kernel.specs.declared.step.Rewriting.{Rewriting}
 use Rattle.proof_kernel.specs.declared.step.Target.{Target}
 use Rattle.proof_kernel.specs.declared.step.Target.TheVariants.{Goal, Hyp}
-use Rattle.proof_kernel.specs.Exchanged.{Exchange, exchanged}
+use Rattle.proof_kernel.specs.Exchanged.{Exchange, put, changed_from}
 use Rattle.proof_kernel.specs.PairRules.{adding}
 use Rattle.proof_kernel.specs.Rules.{hypothesis, with_goal}
 
@@ -20,7 +19,7 @@ use Rattle.proof_kernel.specs.Rules.{hypothesis, with_goal}
 
 -- b for a at depth n, the names that a binds being numbered from n on
 abbrev pub for_each : Term → Term → Exchange
-for_each a b n t = if same_term t (subst n [] a) then Some b else None
+for_each a b n t = if same_term t (subst n [] a) then Some (put b) else None
 
 -- past all names that are free in the terms
 abbrev pub past : Term → Term → Term → ℕ
@@ -31,7 +30,7 @@ past a b t = max (above_free [] t) (max (above_free [] a) (above_free [] b))
 -- t then binds a name that is free in a: each a that is found is free. And none binds one of b: no name is captured, and a free a is found
 -- whatever the quantifiers around it call their variables.
 abbrev pub rewritten : Term → Term → Term → Term
-rewritten a b t = reduced (exchanged (for_each a b) (past a b t) (subst (past a b t) [] t))
+rewritten a b t = changed_from (for_each a b) (past a b t) t
 
 -- the sides of an equation: what is replaced, and by what
 abbrev pub sides : Direction → Term → Option (Term × Term)

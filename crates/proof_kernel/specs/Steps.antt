@@ -11,7 +11,7 @@ use Rattle.proof_kernel.specs.declared.step.Reference.TheVariants.{Goal, Hyp as 
 use Rattle.proof_kernel.specs.declared.step.Step.{Step}
 use Rattle.proof_kernel.specs.declared.step.Target.{Target}
 use Rattle.proof_kernel.specs.declared.step.Target.TheVariants as targets
-use Rattle.proof_kernel.specs.declared.step.Step.TheVariants.{Intro, Hyp, Split, Lin, OnGoal, OnHypothesis, OnTwo, Rewrite, OnTerm, Divide, Instantiate, ByVariants, Induct}
+use Rattle.proof_kernel.specs.declared.step.Step.TheVariants.{Intro, Hyp, Split, Lin, OnGoal, OnHypothesis, OnTwo, Rewrite, Decide, OnTerm, Divide, Instantiate, Unpack, ByVariants, Induct}
 use Rattle.proof_kernel.specs.Rules.{hypothesis, sort_of}
 
 abbrev pub labels_in : Reference → List Label2
@@ -33,9 +33,11 @@ labels_of (OnGoal r) = []
 labels_of (OnHypothesis r l) = l ∷ []
 labels_of (OnTwo r l m) = l ∷ m ∷ []
 labels_of (Rewrite r) = r.equation ∷ label_of_target r.target
+labels_of (Decide l to) = l ∷ label_of_target to
 labels_of (OnTerm r t) = []
 labels_of (Divide t u) = []
 labels_of (Instantiate l ts) = l ∷ []
+labels_of (Unpack l x) = l ∷ []
 labels_of (ByVariants t names) = []
 labels_of (Induct x names) = []
 
@@ -49,9 +51,11 @@ new_names (OnGoal r) = []
 new_names (OnHypothesis r l) = []
 new_names (OnTwo r l m) = []
 new_names (Rewrite r) = []
+new_names (Decide l to) = []
 new_names (OnTerm r t) = []
 new_names (Divide t u) = []
 new_names (Instantiate l ts) = []
+new_names (Unpack l x) = x ∷ []
 new_names (ByVariants t names) = flat_map (λ xs. xs) names
 new_names (Induct x names) = flat_map (λ xs. xs) names
 

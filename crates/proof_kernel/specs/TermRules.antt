@@ -7,17 +7,21 @@ use Rattle.source_kinds.specs.declared.kinds.ArithOp.TheVariants.{Add, Mul, Div,
 use Rattle.source_kinds.specs.declared.kinds.IntKind.{IntKind}
 use Rattle.source_kinds.specs.Range.{lowest, highest}
 use Rattle.source_trees.specs.Pterm.{Pterm}
+use Rattle.logic_term.specs.declared.declaration.AdtDecl.{AdtDecl}
 use Rattle.logic_term.specs.Normal.{reduced}
-use Rattle.logic_term.specs.Term.{Term, lit, model, negative, not, calculate, is_less, is_at_most, is_equal, and, implies}
+use Rattle.logic_term.specs.Subst.{with_terms}
+use Rattle.logic_term.specs.Term.{some, Term, lit, bind, model, negative, not, calculate, is_less, is_at_most, is_equal, and, implies}
 use Rattle.logic_term.specs.Ty.{Ty, int, math_int}
 use Rattle.logic_elab.specs.declared.scope.Symbol.{Symbol}
 use Rattle.logic_elab.specs.declared.sorted.SortedTerm.{SortedTerm}
 use Rattle.logic_elab.specs.Elaborated.{elaborated}
 use Rattle.logic_elab.specs.Scope.{Scope}
-use Rattle.logic_elab.specs.Sorts.{is_bool, is_math_int}
+use Rattle.logic_elab.specs.Sorts.{is_bool, is_math_int, same_ty}
 use Rattle.proof_kernel.specs.Sequent.{Sequent}
 use Rattle.proof_kernel.specs.declared.step.TermRule.{TermRule}
-use Rattle.proof_kernel.specs.declared.step.TermRule.TheVariants.{Cut, On, Range}
+use Rattle.proof_kernel.specs.declared.step.TermRule.TheVariants.{Cut, On, Range, Witness, Eta}
+use Rattle.proof_kernel.specs.EtaRule.{eta_at}
+use Rattle.proof_kernel.specs.GoalRules.{to_show}
 use Rattle.proof_kernel.specs.Rules.{sort_of, with_goal, with_hyps}
 
 -- ---- terms
@@ -46,6 +50,15 @@ assuming_all s q (Some ts) = Some (with_hyps s q (map reduced ts) ∷ [])
 
 -- ---- one term: what step s gives
 
+-- the formula at another term for the variable, in normal form
+abbrev pub at_term : Name → Term → Term → Term
+at_term x u t = reduced (with_terms (record { name = x; by = u } ∷ []) t)
+
+-- the body of an existential formula at the term, if it has the sort of the bound variable
+abbrev pub witnessed : SortedTerm → Term → Option Term
+witnessed a (bind some x s t) = if same_ty a.sort s then Some (at_term x a.term t) else None
+witnessed a t = None
+
 -- a formula in normal form
 abbrev pub formula : SortedTerm → Option Term
 formula a = if is_bool a.sort then Some (reduced a.term) else None
@@ -67,17 +80,20 @@ abbrev pub bounds_at : Ty → Term → Option (List Term)
 bounds_at (int k) t = Some (bounds k t)
 bounds_at s t = None
 
-abbrev pub by_term : TermRule → ℕ → Sequent → SortedTerm → Option (List Sequent)
-by_term Cut s q a = option_map (shown_first s q) (formula a)
-by_term On s q a = option_map (true_or_false s q) (formula a)
-by_term Range s q a = assuming_all s q (bounds_at a.sort a.term)
+-- adts: the types that are declared
+abbrev pub by_term : List AdtDecl → TermRule → ℕ → Sequent → SortedTerm → Option (List Sequent)
+by_term adts Cut s q a = option_map (shown_first s q) (formula a)
+by_term adts On s q a = option_map (true_or_false s q) (formula a)
+by_term adts Range s q a = assuming_all s q (bounds_at a.sort a.term)
+by_term adts Witness s q a = to_show q (witnessed a q.goal)
+by_term adts Eta s q a = assuming_all s q (eta_at adts a)
 
-abbrev pub by_term_if : TermRule → ℕ → Sequent → Option SortedTerm → Option (List Sequent)
-by_term_if r s q None = None
-by_term_if r s q (Some a) = by_term r s q a
+abbrev pub by_term_if : List AdtDecl → TermRule → ℕ → Sequent → Option SortedTerm → Option (List Sequent)
+by_term_if adts r s q None = None
+by_term_if adts r s q (Some a) = by_term adts r s q a
 
-abbrev pub term_rule : TermRule → ℕ → Sequent → Pterm → Option (List Sequent)
-term_rule r s q t = by_term_if r s q (term_at q t)
+abbrev pub term_rule : List AdtDecl → TermRule → ℕ → Sequent → Pterm → Option (List Sequent)
+term_rule adts r s q t = by_term_if adts r s q (term_at q t)
 
 -- ---- division, which truncates toward zero
 

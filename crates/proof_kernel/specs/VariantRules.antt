@@ -11,7 +11,6 @@ use Rattle.logic_term.specs.declared.kinds.Ctor.TheVariants.{Variant}
 use Rattle.logic_term.specs.Erased.{erased}
 use Rattle.logic_term.specs.Normal.{reduced}
 use Rattle.logic_term.specs.Sort.{instance}
-use Rattle.logic_term.specs.Subst.{with_terms}
 use Rattle.logic_term.specs.Term.{Term, var, apply, made, is_equal}
 use Rattle.logic_term.specs.TermView.{terms_of}
 use Rattle.logic_term.specs.Ty.{Ty, Tys, adt}
@@ -20,7 +19,7 @@ use Rattle.logic_elab.specs.Sorts.{same_ty}
 use Rattle.source_trees.specs.Pterm.{Pterm}
 use Rattle.proof_kernel.specs.Sequent.{Sequent}
 use Rattle.proof_kernel.specs.Rules.{sort_of, AreNew, labelled, with_hyps, without_variable}
-use Rattle.proof_kernel.specs.TermRules.{term_at}
+use Rattle.proof_kernel.specs.TermRules.{term_at, at_term}
 
 -- ---- enums
 
@@ -85,10 +84,6 @@ pub data By : Type 0 where
   analysis : Term → By
   -- by induction over the variable, which is of the sort
   induction : Name → Ty → By
-
--- the formula at another term for the variable, in normal form
-abbrev pub at_term : Name → Term → Term → Term
-at_term x u t = reduced (with_terms (record { name = x; by = u } ∷ []) t)
 
 -- the formula at each of the variables that is of the sort
 abbrev pub at_each : Ty → Name → Term → List (Name × Ty) → List Term

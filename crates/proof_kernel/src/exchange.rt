@@ -6,13 +6,25 @@ ghost use Rattle.logic_term.specs.Tasks.{with_last};
 ghost use Rattle.logic_term.specs.Term.{choice, made};
 ghost use Rattle.logic_term.specs.TermOperator.{unary_operator, binary_operator, quantifier};
 ghost use Rattle.logic_term.specs.Walk.{parts};
-ghost use Rattle.proof_kernel.specs.Exchanged.{exchanged};
-ghost use Rattle.proof_kernel.specs.ExchangeSteps.{enter, remake, step, steps, depth_in, steps_of, made_of, applied, bound, with_parts};
+ghost use Rattle.std.specs.Option.{option_map};
+ghost use Rattle.proof_kernel.specs.ChangeCode.{exchange_of};
+ghost use Rattle.proof_kernel.specs.DecideRule.{deciding, is_denial, side_where};
+ghost use Rattle.proof_kernel.specs.Exchanged.{side, exchanged};
+ghost use Rattle.proof_kernel.specs.ExchangeSteps.{enter, remake, step, steps, depth_in, steps_of, side_steps, made_of, applied, bound, with_parts};
 ghost use Rattle.proof_kernel.specs.RewriteRules.{for_each};
 
 use logic_term::{Ctor, Quantifier, Sort, Term, TermBinary, TermForm, TermUnary};
 use std::alloc::Global;
 use text_core::{Name, NoMemory};
+
+/// What is changed in a term.
+#[derive(Clone, Copy)]
+pub(crate) enum Change<'a> {
+    /// The second term stands for each that is the first.
+    Put(&'a Term, &'a Term),
+    /// The first side stands for each `if` whose condition is the term, and the second for each whose condition the term denies.
+    Decide(&'a Term),
+}
 
 #[derive(Clone, Copy)]
 enum Task<'a> {
@@ -22,16 +34,15 @@ enum Task<'a> {
     Remake(&'a Term),
 }
 
-/// The term at this depth, its bound names being numbered from there on, with `by` in the place of each subterm that is `of` but for the names
-/// that both bind, outermost first. It may be as deep as memory allows.
+/// The changed term at this depth, its bound names being numbered from there on. Terms are compared but for the names that both bind, outermost
+/// first. It may be as deep as memory allows.
 pub(crate) fn exchanged(
     alloc: Global,
-    of: &Term,
-    by: &Term,
+    change: Change<'_>,
     depth: u64,
     t: &Term,
 ) -> Result<Term, NoMemory>
-    ensures { IfOk result (λ r. r ≡ exchanged (for_each of.now by.now) depth t.now) }
+    ensures { IfOk result (λ r. r ≡ exchanged (exchange_of change.entry) depth t.now) }
 {
     let mut done = Vec::new(alloc);
     let mut tasks = Vec::new(alloc);
@@ -39,7 +50,7 @@ pub(crate) fn exchanged(
     while let Some(task) = tasks.pop() {
         match task {
             Task::Enter(depth, next) => {
-                enter(alloc, of, by, depth, next, &mut tasks, &mut done)?;
+                enter(alloc, change, depth, next, &mut tasks, &mut done)?;
             }
             Task::Remake(next) => {
                 remake(alloc, next, &mut done)?;
@@ -49,16 +60,58 @@ pub(crate) fn exchanged(
     done.pop().ok_or(NoMemory)
 }
 
+fn is_same(alloc: Global, t: &Term, other: &Term) -> Result<bool, NoMemory>
+    ensures { IfOk result (λ b. b ≡ same_term t.now other.now) }
+{
+    t.same(alloc, other)
+}
+
 /// Whether the term is `of`, whose bound names are numbered from the depth on.
 fn is_at(alloc: Global, of: &Term, depth: u64, t: &Term) -> Result<bool, NoMemory>
     ensures { IfOk result (λ b. b ≡ same_term t.now (subst depth [] of.now)) }
 {
     let form = of.placed(alloc, false, depth, &[])?;
-    t.same(alloc, &form)
+    is_same(alloc, t, &form)
+}
+
+/// Whether the second term denies the first.
+fn is_denial(alloc: Global, c: &Term, t: &Term) -> Result<bool, NoMemory>
+    ensures { IfOk result (λ b. b ≡ is_denial c.now t.now) }
+{
+    match t.form() {
+        TermForm::Unary(TermUnary::Not, a) => is_same(alloc, c, a),
+        _ => Ok(false),
+    }
+}
+
+/// Which side counts where the term is true: the first where it is the condition, the second where it denies it.
+fn side_where(alloc: Global, known: &Term, c: &Term) -> Result<Option<bool>, NoMemory>
+    ensures { IfOk result (λ o. option_map side o ≡ side_where known.now c.now) }
+{
+    if is_same(alloc, c, known)? {
+        Ok(Some(true))
+    } else if is_denial(alloc, c, known)? {
+        Ok(Some(false))
+    } else {
+        Ok(None)
+    }
+}
+
+/// The same of the `if` that the term is at this depth.
+fn side_at(alloc: Global, known: &Term, depth: u64, t: &Term) -> Result<Option<bool>, NoMemory>
+    ensures { IfOk result (λ o. option_map side o ≡ deciding known.now depth t.now) }
+{
+    match t.form() {
+        TermForm::Choice(c, _, _) => {
+            let known = known.placed(alloc, false, depth, &[])?;
+            side_where(alloc, &known, c)
+        }
+        _ => Ok(None),
+    }
 }
 
 /// Makes the other term where the term is to be replaced; else adds what there is to do for it, the first task last.
-fn enter<'a>(
+fn enter_put<'a>(
     alloc: Global,
     of: &Term,
     by: &Term,
@@ -74,6 +127,39 @@ fn enter<'a>(
         push_shared(by, done)
     } else {
         push_parts(depth, t, tasks)
+    }
+}
+
+/// Adds what there is to do for a term, or for the side of it that counts.
+fn enter_decided<'a>(
+    alloc: Global,
+    known: &Term,
+    depth: u64,
+    t: &'a Term,
+    tasks: &mut Vec<Task<'a>>,
+) -> Result<(), NoMemory>
+    ensures { IfOk result (λ _. steps tasks.new.items ≡ steps_of (deciding known.now depth t.now) depth t.now ++ steps tasks.old.items) }
+{
+    match side_at(alloc, known, depth, t)? {
+        None => push_parts(depth, t, tasks),
+        Some(first) => push_side(first, depth, t, tasks),
+    }
+}
+
+fn enter<'a>(
+    alloc: Global,
+    change: Change<'_>,
+    depth: u64,
+    t: &'a Term,
+    tasks: &mut Vec<Task<'a>>,
+    done: &mut Vec<Term>,
+) -> Result<(), NoMemory>
+    ensures tasks { IfOk result (λ _. steps tasks.new.items ≡ steps_of (exchange_of change.entry depth t.now) depth t.now ++ steps tasks.old.items) }
+    ensures made { IfOk result (λ _. done.new.items ≡ done.old.items ++ made_of (exchange_of change.entry depth t.now)) }
+{
+    match change {
+        Change::Put(of, by) => enter_put(alloc, of, by, depth, t, tasks, done),
+        Change::Decide(known) => enter_decided(alloc, known, depth, t, tasks),
     }
 }
 
@@ -142,6 +228,24 @@ fn push_parts<'a>(depth: u64, t: &'a Term, tasks: &mut Vec<Task<'a>>) -> Result<
         TermForm::Choice(c, a, b) => push_three(depth, c, a, b, tasks),
         TermForm::Quantified(_, _, _, a) => push_body(depth, a, tasks),
         _ => Ok(()),
+    }
+}
+
+/// The side of an `if`; of another term, all its parts.
+fn push_side<'a>(
+    first: bool,
+    depth: u64,
+    t: &'a Term,
+    tasks: &mut Vec<Task<'a>>,
+) -> Result<(), NoMemory>
+    ensures { IfOk result (λ _. steps tasks.new.items ≡ side_steps first depth t.now ++ steps tasks.old.items) }
+{
+    match t.form() {
+        TermForm::Choice(_, a, b) => {
+            let side = if first { a } else { b };
+            push_task(Task::Enter(depth, side), tasks)
+        }
+        _ => push_parts(depth, t, tasks),
     }
 }
 

@@ -1,8 +1,8 @@
 //! The rules by the form of one hypothesis.
 ghost use Rattle.std.specs.Prelude.{◌≡◌, ◌∷◌, [], Some, IfOk, MatchOption, map, false, if◌then◌else◌};
-ghost use Rattle.logic_term.specs.Term.{not, or, implies, two};
-ghost use Rattle.logic_term.specs.TermOperator.{binary_operator};
-ghost use Rattle.proof_kernel.specs.HypothesisRules.{is_false, disjuncts, is_disjunction, alone, pushed, one_case, if_formulas, denied_cases, cases_of, in_cases, together, on_hypothesis, hypothesis_rule};
+ghost use Rattle.logic_term.specs.Term.{not, or, implies, two, bind};
+ghost use Rattle.logic_term.specs.TermOperator.{binary_operator, quantifier};
+ghost use Rattle.proof_kernel.specs.HypothesisRules.{is_false, disjuncts, is_disjunction, alone, pushed, one_case, if_formulas, choice_cases, other_quantifier, denied_cases, cases_of, in_cases, together, on_hypothesis, hypothesis_rule};
 ghost use Rattle.std.specs.Option.{option_map};
 ghost use Rattle.proof_kernel.specs.Rules.{conjuncts, dropping, with_goal, with_hyps, Finds};
 
@@ -15,9 +15,9 @@ use crate::rules::{
 use crate::sequent::Sequent;
 use crate::sort_tests::are_formulas;
 use crate::step::HypothesisRule;
-use logic_term::{Label2, Term, TermBinary, TermForm, TermUnary};
+use logic_term::{Label2, Quantifier, Sort, Term, TermBinary, TermForm, TermUnary};
 use std::alloc::Global;
-use text_core::NoMemory;
+use text_core::{Name, NoMemory};
 
 fn is_false(t: &Term) -> bool
     ensures { result ≡ is_false t.now }
@@ -87,6 +87,30 @@ fn joined(alloc: Global, op: TermBinary, a: Term, b: &Term) -> Result<Option<Ter
     Ok(Some(t))
 }
 
+fn other_quantifier(word: Quantifier) -> Quantifier
+    ensures { quantifier result ≡ other_quantifier (quantifier word) }
+{
+    match word {
+        Quantifier::Forall => Quantifier::Exists,
+        Quantifier::Exists => Quantifier::Forall,
+    }
+}
+
+/// The denial of a quantified formula: the other quantifier over the denied body.
+fn pushed_under(
+    alloc: Global,
+    word: Quantifier,
+    name: Name,
+    sort: &Sort,
+    body: &Term,
+) -> Result<Term, NoMemory>
+    ensures { IfOk result (λ d. d ≡ bind (other_quantifier (quantifier word)) name sort.now (not body.now)) }
+{
+    let sort = sort.copy(alloc)?;
+    let body = denied(alloc, body)?;
+    Term::quantified(alloc, other_quantifier(word), name, sort, body)
+}
+
 /// The denial of the formula, pushed inward by one level.
 fn pushed(alloc: Global, t: &Term) -> Result<Option<Term>, NoMemory>
     ensures { IfOk result (λ o. o ≡ pushed t.now) }
@@ -102,6 +126,9 @@ fn pushed(alloc: Global, t: &Term) -> Result<Option<Term>, NoMemory>
             joined(alloc, TermBinary::And, a.share()?, b)
         }
         TermForm::Unary(TermUnary::Not, a) => Ok(Some(a.share()?)),
+        TermForm::Quantified(word, name, sort, body) => {
+            Ok(Some(pushed_under(alloc, word, name, sort, body)?))
+        }
         _ => Ok(None),
     }
 }
@@ -215,6 +242,23 @@ fn by_values(
     Ok(Some(premises))
 }
 
+/// The condition is true, and the first side is or is not, as is said; or it is false, and the second side is or is not.
+fn by_choice(
+    alloc: Global,
+    step: u32,
+    q: &Sequent,
+    holds: bool,
+    condition: &Term,
+    a: &Term,
+    b: &Term,
+) -> Result<Vec<Sequent>, NoMemory>
+    ensures { IfOk result (λ v. v.items ≡ map (with_hyps step q.now) (choice_cases holds condition.now a.now b.now)) }
+{
+    let first = where_they_are(alloc, step, q, condition, true, a, holds)?;
+    let second = where_they_are(alloc, step, q, condition, false, b, holds)?;
+    two_premises(alloc, first, second)
+}
+
 /// A premise for each case of the denial of the formula.
 fn denied_cases(
     alloc: Global,
@@ -226,6 +270,7 @@ fn denied_cases(
 {
     match t.form() {
         TermForm::Binary(TermBinary::Equal, a, b) => by_values(alloc, step, q, false, a, b),
+        TermForm::Choice(c, a, b) => Ok(Some(by_choice(alloc, step, q, false, c, a, b)?)),
         _ => in_one_case(alloc, step, q, pushed(alloc, t)?),
     }
 }
@@ -241,6 +286,7 @@ fn cases(alloc: Global, step: u32, q: &Sequent, h: &Term) -> Result<Option<Vec<S
             Ok(Some(by_implication(alloc, step, q, a, b)?))
         }
         TermForm::Binary(TermBinary::Equal, a, b) => by_values(alloc, step, q, true, a, b),
+        TermForm::Choice(c, a, b) => Ok(Some(by_choice(alloc, step, q, true, c, a, b)?)),
         TermForm::Unary(TermUnary::Not, a) => denied_cases(alloc, step, q, a),
         _ => Ok(None),
     }

@@ -19,7 +19,7 @@ use text_core::{Items, Name, NoMemory};
 // ---- new names
 
 /// Whether the name is no variable of the sequent and free nowhere in it. What is past `above` is free nowhere.
-fn is_new(alloc: Global, name: Name, q: &Sequent, above: u64) -> Result<bool, NoMemory>
+pub(crate) fn is_new(alloc: Global, name: Name, q: &Sequent, above: u64) -> Result<bool, NoMemory>
     requires { IsAbove above q.now }
     ensures { IfOk result (λ b. IsTrue b ↔ IsNew name q.now) }
 {

@@ -6,10 +6,11 @@ ghost use Rattle.proof_kernel.specs.Accepts.{begun};
 ghost use Rattle.proof_kernel.specs.Kernel.{Applies, CanBeDone, FitsNoRule, IsTooWide, IsWide, NothingApplies, UnlessNoMemory, first_of, is_above, cites_above};
 ghost use Rattle.proof_kernel.specs.Made.{IsMade, IsMadeFirst, others_of};
 ghost use Rattle.proof_kernel.specs.Setting.{setting};
-ghost use Rattle.proof_kernel.specs.Steps.{labels_in, labels_of};
+ghost use Rattle.proof_kernel.specs.Steps.{label_of_target, labels_in, labels_of};
 ghost use Rattle.proof_kernel.specs.Rules.{free_in_hyps};
 ghost use Rattle.proof_kernel.specs.VariantRules.{AllNew};
 
+use crate::decide_rule::decide_rule;
 use crate::goal_rules::goal_rule;
 use crate::hypothesis_rules::hypothesis_rule;
 use crate::instances::instance_rule;
@@ -24,6 +25,7 @@ use crate::step::{
     GoalRule, HypothesisRule, Multiple, PairRule, Reference, Rewriting, Step, Target, TermRule,
 };
 use crate::term_rules::{division_rule, term_rule};
+use crate::unpack_rule::{is_new_in, unpack_rule};
 use crate::variant_rules::{are_all_new, induction_rule, variants_rule};
 use logic_term::{Label2, Obligation};
 use source_trees::Pterm;
@@ -107,11 +109,16 @@ fn are_in_order(step: u32, multiples: &[Multiple]) -> bool
 fn is_rewriting_in_order(step: u32, rewriting: Rewriting) -> bool
     ensures { result ≡ list_all (is_above step) (labels_of (kinds.Rewrite rewriting)) }
 {
-    let is_target_above = match rewriting.target {
+    is_label_above(step, rewriting.equation) && is_target_in_order(step, rewriting.target)
+}
+
+fn is_target_in_order(step: u32, target: Target) -> bool
+    ensures { result ≡ list_all (is_above step) (label_of_target target) }
+{
+    match target {
         Target::Goal => true,
         Target::Hyp(label) => is_label_above(step, label),
-    };
-    is_label_above(step, rewriting.equation) && is_target_above
+    }
 }
 
 /// Whether each step that the step with this number cites is above it.
@@ -126,7 +133,11 @@ fn cites_in_order(number: u32, step: &Step) -> bool
             is_label_above(number, *first) && is_label_above(number, *second)
         }
         Step::Rewrite(rewriting) => is_rewriting_in_order(number, *rewriting),
+        Step::Decide(label, target) => {
+            is_label_above(number, *label) && is_target_in_order(number, *target)
+        }
         Step::Instantiate(label, _) => is_label_above(number, *label),
+        Step::Unpack(label, _) => is_label_above(number, *label),
         Step::Intro(_) | Step::Split | Step::OnGoal(_) => true,
         Step::OnTerm(_, _) | Step::Divide(_, _) => true,
         Step::ByVariants(_, _) | Step::Induct(_, _) => true,
@@ -268,6 +279,22 @@ fn by_rewriting(
     }
 }
 
+fn by_deciding(
+    alloc: Global,
+    scope: &Scope<'_>,
+    number: u32,
+    label: Label2,
+    target: Target,
+    q: &Sequent,
+) -> Result<Made, NoMemory>
+    ensures { IfOk result (λ made. IsMade (setting scope.now) number q.now (kinds.Decide label target) made) }
+{
+    match decide_rule(alloc, number, label, target, q)? {
+        None => Ok(Made::Nothing),
+        Some(premises) => Ok(Made::Premises(premises)),
+    }
+}
+
 fn by_term(
     alloc: Global,
     scope: &Scope<'_>,
@@ -278,7 +305,8 @@ fn by_term(
 ) -> Result<Made, NoMemory>
     ensures { IfOk result (λ made. IsMade (setting scope.now) number q.now (kinds.OnTerm rule t.now) made) }
 {
-    match term_rule(alloc, rule, number, t, q)? {
+    let adts = scope.tables.adts.as_slice();
+    match term_rule(alloc, adts, rule, number, t, q)? {
         None => Ok(Made::Nothing),
         Some(premises) => Ok(Made::Premises(premises)),
     }
@@ -311,6 +339,25 @@ fn by_instance(
     ensures { IfOk result (λ made. IsMade (setting scope.now) number q.now (kinds.Instantiate label ts.now) made) }
 {
     match instance_rule(alloc, number, label, ts.as_slice(), q)? {
+        None => Ok(Made::Nothing),
+        Some(premises) => Ok(Made::Premises(premises)),
+    }
+}
+
+fn by_unpacking(
+    alloc: Global,
+    scope: &Scope<'_>,
+    number: u32,
+    label: Label2,
+    name: Name,
+    q: &Sequent,
+) -> Result<Made, NoMemory>
+    ensures { IfOk result (λ made. IsMade (setting scope.now) number q.now (kinds.Unpack label name) made) }
+{
+    if !is_new_in(alloc, name, q)? {
+        return Ok(Made::Nothing);
+    }
+    match unpack_rule(alloc, number, label, name, q)? {
         None => Ok(Made::Nothing),
         Some(premises) => Ok(Made::Premises(premises)),
     }
@@ -392,9 +439,11 @@ fn made_of(
             by_two(alloc, scope, number, *rule, *first, *second, q)
         }
         Step::Rewrite(rewriting) => by_rewriting(alloc, scope, number, *rewriting, q),
+        Step::Decide(label, target) => by_deciding(alloc, scope, number, *label, *target, q),
         Step::OnTerm(rule, t) => by_term(alloc, scope, number, *rule, t, q),
         Step::Divide(t, u) => by_division(alloc, scope, number, t, u, q),
         Step::Instantiate(label, ts) => by_instance(alloc, scope, number, *label, ts, q),
+        Step::Unpack(label, name) => by_unpacking(alloc, scope, number, *label, *name, q),
         Step::ByVariants(t, names) => by_variants(alloc, scope, number, t, names, q),
         Step::Induct(name, names) => by_induction(alloc, scope, number, *name, names, q),
     }

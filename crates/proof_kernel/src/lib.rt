@@ -3,7 +3,9 @@
 
 mod back_rule;
 mod constructor_rules;
+mod decide_rule;
 mod erasing;
+mod eta_rule;
 mod exchange;
 mod goal_rules;
 mod hypothesis_rules;
@@ -23,6 +25,7 @@ mod setting;
 mod sort_tests;
 mod step;
 mod term_rules;
+mod unpack_rule;
 mod variant_rules;
 
 pub use kernel::{Kernel, StepError};

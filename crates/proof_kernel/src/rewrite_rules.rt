@@ -1,10 +1,11 @@
 //! The rule that puts an equation into the goal, or into a hypothesis.
 ghost use Rattle.std.specs.Prelude.{◌≡◌, Some, None, IfOk, MatchOption};
-ghost use Rattle.proof_kernel.specs.RewriteRules.{rewritten, sides, changing, rewrite_rule};
+ghost use Rattle.proof_kernel.specs.ChangeCode.{changed_by, past_change};
+ghost use Rattle.proof_kernel.specs.RewriteRules.{sides, changing, rewrite_rule};
 ghost use Rattle.proof_kernel.specs.Rules.{Finds};
 ghost use Rattle.proof_kernel.specs.declared.step.Target.TheVariants as targets;
 
-use crate::exchange::exchanged;
+use crate::exchange::{Change, exchanged};
 use crate::rules::{one_premise, with_hypothesis};
 use crate::sequent::Sequent;
 use crate::step::{Direction, Rewriting, Target};
@@ -14,14 +15,24 @@ use text_core::NoMemory;
 
 // ---- terms
 
-/// The normal form of the term with `by` in the place of each free `of`. No name is captured.
-fn rewritten(alloc: Global, of: &Term, by: &Term, t: &Term) -> Result<Term, NoMemory>
-    ensures { IfOk result (λ r. r ≡ rewritten of.now by.now t.now) }
+/// A number past all names that are free in the terms of the change.
+fn past_change(alloc: Global, change: Change<'_>) -> Result<u64, NoMemory>
+    ensures { IfOk result (λ n. n ≡ past_change change.entry) }
 {
-    let names = of.above_free(alloc)?.max(by.above_free(alloc)?);
+    match change {
+        Change::Put(of, by) => Ok(of.above_free(alloc)?.max(by.above_free(alloc)?)),
+        Change::Decide(known) => known.above_free(alloc),
+    }
+}
+
+/// The normal form of the changed term. No name is captured.
+fn changed(alloc: Global, change: Change<'_>, t: &Term) -> Result<Term, NoMemory>
+    ensures { IfOk result (λ r. r ≡ changed_by change.entry t.now) }
+{
+    let names = past_change(alloc, change)?;
     let depth = t.above_free(alloc)?.max(names);
     let numbered = t.placed(alloc, false, depth, &[])?;
-    let other = exchanged(alloc, of, by, depth, &numbered)?;
+    let other = exchanged(alloc, change, depth, &numbered)?;
     reduce(alloc, &other)
 }
 
@@ -42,13 +53,12 @@ fn in_goal(
     alloc: Global,
     step: u32,
     q: &Sequent,
-    of: &Term,
-    by: &Term,
+    change: Change<'_>,
 ) -> Result<Option<Vec<Sequent>>, NoMemory>
-    ensures { IfOk result (λ o. Finds (changing step q.now targets.Goal (rewritten of.now by.now)) o) }
+    ensures { IfOk result (λ o. Finds (changing step q.now targets.Goal (changed_by change.entry)) o) }
 {
     let goal = q.goal(alloc)?;
-    let goal = rewritten(alloc, of, by, &goal)?;
+    let goal = changed(alloc, change, &goal)?;
     let premise = q.with_goal(goal)?;
     let premises = one_premise(alloc, premise)?;
     Ok(Some(premises))
@@ -59,33 +69,32 @@ fn in_hypothesis(
     step: u32,
     label: Label2,
     q: &Sequent,
-    of: &Term,
-    by: &Term,
+    change: Change<'_>,
 ) -> Result<Option<Vec<Sequent>>, NoMemory>
-    ensures { IfOk result (λ o. Finds (changing step q.now (targets.Hyp label) (rewritten of.now by.now)) o) }
+    ensures { IfOk result (λ o. Finds (changing step q.now (targets.Hyp label) (changed_by change.entry)) o) }
 {
     let Some(h) = q.hypothesis(alloc, label)? else {
         return Ok(None);
     };
-    let h = rewritten(alloc, of, by, &h)?;
+    let h = changed(alloc, change, &h)?;
     let premise = with_hypothesis(alloc, step, q, h)?;
     let premises = one_premise(alloc, premise)?;
     Ok(Some(premises))
 }
 
-fn changing(
+/// The changed goal instead, or the changed hypothesis as one more; `None` exactly where the hypothesis is not there.
+pub(crate) fn changing(
     alloc: Global,
     target: Target,
     step: u32,
     q: &Sequent,
-    of: &Term,
-    by: &Term,
+    change: Change<'_>,
 ) -> Result<Option<Vec<Sequent>>, NoMemory>
-    ensures { IfOk result (λ o. Finds (changing step q.now target (rewritten of.now by.now)) o) }
+    ensures { IfOk result (λ o. Finds (changing step q.now target (changed_by change.entry)) o) }
 {
     match target {
-        Target::Goal => in_goal(alloc, step, q, of, by),
-        Target::Hyp(label) => in_hypothesis(alloc, step, label, q, of, by),
+        Target::Goal => in_goal(alloc, step, q, change),
+        Target::Hyp(label) => in_hypothesis(alloc, step, label, q, change),
     }
 }
 
@@ -103,6 +112,6 @@ pub fn rewrite_rule(
     };
     match sides(rewriting.direction, &equation) {
         None => Ok(None),
-        Some((of, by)) => changing(alloc, rewriting.target, step, q, of, by),
+        Some((of, by)) => changing(alloc, rewriting.target, step, q, Change::Put(of, by)),
     }
 }

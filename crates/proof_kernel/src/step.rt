@@ -80,6 +80,10 @@ pub enum TermRule {
     On,
     /// The two bounds of a machine integer.
     Range,
+    /// A goal `exists`: its body at the term.
+    Witness,
+    /// A tuple or a struct is made of its parts.
+    Eta,
 }
 
 /// Which side of an equation is replaced by the other.
@@ -126,12 +130,16 @@ pub enum Step {
     OnTwo(PairRule, Label2, Label2),
     /// Puts an equation into the goal, or into a hypothesis.
     Rewrite(Rewriting),
+    /// Decides, by the hypothesis, the conditions of each `if` in the goal, or in a hypothesis.
+    Decide(Label2, Target),
     /// By a term.
     OnTerm(TermRule, Pterm),
     /// What the division of the first term by the second says.
     Divide(Pterm, Pterm),
     /// Terms for the names that the hypothesis is quantified over.
     Instantiate(Label2, Items<Pterm>),
+    /// A hypothesis `exists`: a variable of this name, at which its body is true.
+    Unpack(Label2, Name),
     /// The term by the variants of its enum, with names for the fields of each.
     ByVariants(Pterm, Items<Items<Name>>),
     /// Induction over a variable of an enum, with names for the fields of each variant.

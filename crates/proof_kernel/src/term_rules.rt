@@ -3,14 +3,18 @@ ghost use Rattle.std.specs.Prelude.{◌≡◌, ◌∷◌, [], IfOk, map};
 ghost use Rattle.logic_term.specs.Normal.{reduced};
 ghost use Rattle.logic_term.specs.Term.{calculate};
 ghost use Rattle.proof_kernel.specs.Rules.{Finds, with_hyps};
-ghost use Rattle.proof_kernel.specs.TermRules.{assuming_all, bounds, bounds_at, by_term, division, division_of, division_rule, formula, number, number_if, shown_first, term_at, term_rule, true_or_false, divides_back, is_not_zero, remainder_near, remainder_near_negative, remainder_not_above, remainder_not_below, zero_term};
+ghost use Rattle.proof_kernel.specs.EtaRule.{eta_at};
+ghost use Rattle.proof_kernel.specs.GoalRules.{to_show};
+ghost use Rattle.proof_kernel.specs.TermRules.{at_term, assuming_all, bounds, bounds_at, by_term, division, division_of, division_rule, formula, number, number_if, shown_first, term_at, term_rule, true_or_false, witnessed, divides_back, is_not_zero, remainder_near, remainder_near_negative, remainder_not_above, remainder_not_below, zero_term};
 ghost use Rattle.proof_kernel.specs.declared.step.TermRule.TheVariants as rules;
 
+use crate::eta_rule::eta_at;
+use crate::instances::is_sort;
 use crate::rules::{one_premise, two_premises, with_hypotheses, with_hypothesis};
 use crate::sequent::Sequent;
 use crate::step::TermRule;
 use logic_elab::{SortedTerm, Symbol, TermScope, elaborate};
-use logic_term::{Term, TyNode, reduce};
+use logic_term::{AdtDecl, Quantifier, Replacement, Term, TermForm, TyNode, reduce};
 use source_kinds::{ArithOp, IntKind};
 use source_trees::Pterm;
 use std::alloc::Global;
@@ -55,6 +59,14 @@ pub(crate) fn term_at(alloc: Global, q: &Sequent, t: &Pterm) -> Result<Option<So
 }
 
 // ---- one term
+
+/// The formula at another term for the variable, in normal form.
+pub(crate) fn at_term(alloc: Global, name: Name, by: Term, t: &Term) -> Result<Term, NoMemory>
+    ensures { IfOk result (λ u. u ≡ at_term name by t.now) }
+{
+    let t = t.with(alloc, &[Replacement { name, by }])?;
+    reduce(alloc, &t)
+}
 
 /// The term in normal form, if it is a formula.
 fn formula(alloc: Global, t: SortedTerm) -> Result<Option<Term>, NoMemory>
@@ -147,14 +159,59 @@ fn range(
     }
 }
 
+/// The body of the existential formula at the term; `None` exactly where the formula is no such, or the term is of another sort than the bound
+/// variable.
+fn witnessed(alloc: Global, t: SortedTerm, formula: &Term) -> Result<Option<Term>, NoMemory>
+    ensures { IfOk result (λ o. o ≡ witnessed t formula.now) }
+{
+    let SortedTerm { sort, term } = t;
+    match formula.form() {
+        TermForm::Quantified(Quantifier::Exists, name, wanted, body) => {
+            if !is_sort(&sort, wanted) {
+                return Ok(None);
+            }
+            Ok(Some(at_term(alloc, name, term.into_inner(), body)?))
+        }
+        _ => Ok(None),
+    }
+}
+
+/// The goal at the term.
+fn witness(alloc: Global, q: &Sequent, t: SortedTerm) -> Result<Option<Vec<Sequent>>, NoMemory>
+    ensures { IfOk result (λ o. Finds (to_show q.now (witnessed t q.now.goal)) o) }
+{
+    let goal = q.goal(alloc)?;
+    match witnessed(alloc, t, &goal)? {
+        None => Ok(None),
+        Some(goal) => Ok(Some(one_premise(alloc, q.with_goal(goal)?)?)),
+    }
+}
+
+/// That the term is made of its parts; `None` exactly where it is of no tuple and no struct.
+fn eta(
+    alloc: Global,
+    adts: &[AdtDecl],
+    step: u32,
+    q: &Sequent,
+    t: SortedTerm,
+) -> Result<Option<Vec<Sequent>>, NoMemory>
+    ensures { IfOk result (λ o. Finds (assuming_all step q.now (eta_at adts.now t)) o) }
+{
+    match eta_at(alloc, adts, t)? {
+        None => Ok(None),
+        Some(equation) => Ok(Some(assuming_all(alloc, step, q, &[equation])?)),
+    }
+}
+
 fn by_term(
     alloc: Global,
+    adts: &[AdtDecl],
     rule: TermRule,
     step: u32,
     q: &Sequent,
     t: SortedTerm,
 ) -> Result<Option<Vec<Sequent>>, NoMemory>
-    ensures { IfOk result (λ o. Finds (by_term rule step q.now t) o) }
+    ensures { IfOk result (λ o. Finds (by_term adts.now rule step q.now t) o) }
 {
     match rule {
         TermRule::Cut => match formula(alloc, t)? {
@@ -166,22 +223,25 @@ fn by_term(
             Some(formula) => Ok(Some(on_truth(alloc, step, q, formula)?)),
         },
         TermRule::Range => range(alloc, step, q, t),
+        TermRule::Witness => witness(alloc, q, t),
+        TermRule::Eta => eta(alloc, adts, step, q, t),
     }
 }
 
 /// The premises of step `step`; `None` exactly where the term is nothing at the sequent that the rule takes.
 pub(crate) fn term_rule(
     alloc: Global,
+    adts: &[AdtDecl],
     rule: TermRule,
     step: u32,
     t: &Pterm,
     q: &Sequent,
 ) -> Result<Option<Vec<Sequent>>, NoMemory>
-    ensures { IfOk result (λ o. Finds (term_rule rule step q.now t.now) o) }
+    ensures { IfOk result (λ o. Finds (term_rule adts.now rule step q.now t.now) o) }
 {
     match term_at(alloc, q, t)? {
         None => Ok(None),
-        Some(term) => by_term(alloc, rule, step, q, term),
+        Some(term) => by_term(alloc, adts, rule, step, q, term),
     }
 }
 

@@ -7,18 +7,18 @@ ghost use Rattle.logic_term.specs.Term.{is_equal};
 ghost use Rattle.logic_term.specs.TyView.{compound_of, tys_of};
 ghost use Rattle.proof_kernel.specs.Rules.{Finds, removing, with_goal, with_hyps};
 ghost use Rattle.proof_kernel.specs.VariantCode.{by_of, enum_with};
-ghost use Rattle.proof_kernel.specs.VariantRules.{AllNew, at_each, at_term, case_of, variant_term, cases_in, enum_of, field_sort, in_variants, induction_rule, premise_of, variants_rule, with_variables};
+ghost use Rattle.proof_kernel.specs.TermRules.{at_term};
+ghost use Rattle.proof_kernel.specs.VariantRules.{AllNew, at_each, case_of, variant_term, cases_in, enum_of, field_sort, in_variants, induction_rule, premise_of, variants_rule, with_variables};
 
 use crate::erasing::erased;
 use crate::instances::is_sort;
 use crate::intro::are_new;
 use crate::rules::{with_hypotheses, with_hypothesis};
 use crate::sequent::Sequent;
-use crate::term_rules::term_at;
+use crate::term_rules::{at_term, term_at};
 use logic_elab::SortedTerm;
 use logic_term::{
-    AdtDecl, AdtId, CompoundTy, Ctor, FieldDecl, Replacement, Sort, Term, Ty, TyNode, VariantDecl,
-    reduce,
+    AdtDecl, AdtId, CompoundTy, Ctor, FieldDecl, Sort, Term, Ty, TyNode, VariantDecl, reduce,
 };
 use rs_types::applied;
 use source_trees::Pterm;
@@ -108,14 +108,6 @@ fn with_fields(
         all = all.declaring(alloc, names[i], sort)?;
     }
     Ok(all)
-}
-
-/// The formula at another term for the variable, in normal form.
-fn at_term(alloc: Global, name: Name, by: Term, t: &Term) -> Result<Term, NoMemory>
-    ensures { IfOk result (λ u. u ≡ at_term name by t.now) }
-{
-    let t = t.with(alloc, &[Replacement { name, by }])?;
-    reduce(alloc, &t)
 }
 
 /// Adds the formula at the name, if its sort is this.

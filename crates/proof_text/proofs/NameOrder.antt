@@ -13,7 +13,6 @@ use Rattle.name_tables.proofs.Tables.{names_append as tables_append}
 use Rattle.proof_text.specs.declared.proof.ProofFile.{ProofFile}
 use Rattle.proof_text.specs.declared.fault.ProofTextError.{ProofTextError}
 use Rattle.proof_kernel.specs.declared.step.TermRule.{TermRule}
-use Rattle.proof_text.specs.declared.rule_words.TermLine.{TermLine}
 use Rattle.proof_text.specs.declared.rule_words.TermLine.TheVariants.{Rule, Division, Instance}
 use Rattle.source_words.specs.Words.{GivesNames, identifiers_in}
 use Rattle.proof_text.specs.ProofTextRules.{term_line_of}

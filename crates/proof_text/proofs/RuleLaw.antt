@@ -1,5 +1,5 @@
 -- The words of the rules, both ways.
-use Rattle.std.proofs.Common.{◌≡◌, ℕ, Bool, true, false, cond, List, [], ◌∷◌, Option, Some, None, refl, sym, ◌∙◌, ap, subst}
+use Rattle.std.proofs.Common.{◌≡◌, ℕ, Bool, true, false, cond, List, [], ◌∷◌, Option, Some, None, refl, sym, ◌∙◌, ap, subst, codes}
 use Rattle.std.specs.Prelude.{is_some, Result, IfOk}
 use Rattle.std.specs.Option.{option_map, ok_or}
 use Rattle.std.specs.Str.{bytes_eq}
@@ -8,19 +8,19 @@ use Rattle.logic_term.specs.declared.kinds.Label2.{Label2}
 use Rattle.proof_kernel.specs.declared.step.GoalRule.{GoalRule}
 use Rattle.proof_kernel.specs.declared.step.GoalRule.TheVariants.{Refl}
 use Rattle.proof_kernel.specs.declared.step.HypothesisRule.{HypothesisRule}
-use Rattle.proof_kernel.specs.declared.step.HypothesisRule.TheVariants.{Cases}
+use Rattle.proof_kernel.specs.declared.step.HypothesisRule.TheVariants.{Cases, Absurd}
 use Rattle.proof_kernel.specs.declared.step.PairRule.{PairRule}
 use Rattle.proof_kernel.specs.declared.step.PairRule.TheVariants.{ModusPonens}
 use Rattle.proof_text.specs.declared.rule_words.TermLine.{TermLine}
 use Rattle.proof_text.specs.declared.rule_words.TermLine.TheVariants.{Rule, Division, Instance}
-use Rattle.proof_kernel.specs.declared.step.TermRule.TheVariants.{Cut, On, Range}
+use Rattle.proof_kernel.specs.declared.step.TermRule.TheVariants.{Cut, On, Range, Witness, Eta}
 use Rattle.proof_kernel.specs.declared.step.Step.{Step}
-use Rattle.proof_kernel.specs.declared.step.Step.TheVariants.{Intro, Hyp, Split, Lin, OnGoal, OnHypothesis, OnTwo, Rewrite, OnTerm, Divide, Instantiate, ByVariants, Induct}
+use Rattle.proof_kernel.specs.declared.step.Step.TheVariants.{Intro, Hyp, Split, Lin, OnGoal, OnHypothesis, OnTwo, Rewrite, Decide, OnTerm, Divide, Instantiate, Unpack, ByVariants, Induct}
 use Rattle.proof_text.specs.declared.fault.Fault.{Fault}
 use Rattle.proof_text.specs.declared.fault.Fault.TheVariants.{Bad}
-use Rattle.proof_text.specs.ProofTextWords.{◌>>=◌}
-use Rattle.proof_text.specs.ProofTextRules.{goal_word, hypothesis_word, pair_word, labels_in, rule_by, goal_rules, hypothesis_rules, pair_rules, goal_rule_of, hypothesis_rule_of, pair_rule_of, term_word, line_word, term_lines, term_line_of}
-use Rattle.proof_text.specs.ProofTextLines.{word_of, SpellsRest, SpellsParts}
+use Rattle.proof_text.specs.ProofTextWords.{◌>>=◌, cut, label_of}
+use Rattle.proof_text.specs.ProofTextRules.{goal_word, hypothesis_word, pair_word, labels_by, labels_in, rule_by, goal_rules, hypothesis_rules, pair_rules, goal_rule_of, hypothesis_rule_of, pair_rule_of, term_word, line_word, term_lines, term_line_of}
+use Rattle.proof_text.specs.ProofTextLines.{identifier_of, case_by, case_in, word_of, SpellsRest, SpellsParts}
 use Rattle.proof_text.specs.ProofTextFile.{is_step, is_plain_step, step, line_if, line_by_head, at_labels, rule_step_of}
 use Rattle.proof_text.proofs.LineLaw.{is_plain}
 
@@ -69,7 +69,11 @@ rule_line table head rest (Some s) r is e = subst (λ r. IfOk r (λ s. SpellsPar
 
 -- ---- and a rule's word is read as the rule
 
--- no other line begins with the word
+-- a step's line begins with the word
+abbrev IsStepHead : List ℕ → Type 0
+IsStepHead word = (is_plain word ≡ true) × ((rest : Option (List ℕ)) → line_by_head word rest ≡ line_if (is_step word rest) step)
+
+-- and no other line
 abbrev IsRuleHead : List ℕ → Type 0
 IsRuleHead word =
     (is_plain word ≡ true) × ((rest : Option (List ℕ)) → line_by_head word rest ≡ line_if (is_step word rest) step) × ((rest : Option (List ℕ)) → is_step word rest ≡ is_some (rule_step_of word rest))
@@ -79,10 +83,10 @@ unfolding is_step is_plain_step term_line_of line_by_head
 goal_head Refl = (refl, λ rest. refl, λ rest. refl)
 goal_head _ = (refl, λ rest. refl, λ rest. refl)
 
-pub hypothesis_head : (rule : HypothesisRule) → IsRuleHead (hypothesis_word rule)
+pub hypothesis_head : (rule : HypothesisRule) → IsStepHead (hypothesis_word rule)
 unfolding is_step is_plain_step term_line_of line_by_head
-hypothesis_head Cases = (refl, λ rest. refl, λ rest. refl)
-hypothesis_head _ = (refl, λ rest. refl, λ rest. refl)
+hypothesis_head Cases = (refl, λ rest. refl)
+hypothesis_head _ = (refl, λ rest. refl)
 
 pub pair_head : (rule : PairRule) → IsRuleHead (pair_word rule)
 unfolding is_step is_plain_step term_line_of line_by_head
@@ -109,6 +113,8 @@ unfolding term_line_of
 term_found (Rule Cut) = refl
 term_found (Rule On) = refl
 term_found (Rule Range) = refl
+term_found (Rule Witness) = refl
+term_found (Rule Eta) = refl
 term_found Division = refl
 term_found Instance = refl
 
@@ -131,6 +137,64 @@ module _ (head : List ℕ) (goal : goal_rule_of head ≡ None) (hypothesis : hyp
   no_rule None = ap (option_map OnGoal) goal
   no_rule (Some rest) = none_by (labels_in rest)
 
+-- ---- a label behind `cases`, alone or before a name
+
+same_found : {A B : Type 0} (p q : A × B) → Some p ≡ Some q → p ≡ q
+same_found p q e = cc
+
+pub to_labels : (rest : Option (List ℕ)) (l : Label2) → (rest >>= case_in) ≡ Some (l, None) → (rest >>= labels_in) ≡ Some (l, None)
+to_labels None l e = absurd (cc)
+to_labels (Some text) l e = by_cut (cut 32 text) e
+  where
+    alone : (o : Option Label2) → option_map (λ (m : Label2). let found : Label2 × Option (List ℕ) = (m, None) in found) o ≡ Some (l, None) → option_map (λ (m : Label2). let found : Label2 × Option Label2 = (m, None) in found) o ≡ Some (l, None)
+    alone None f = absurd (cc)
+    alone (Some m) f = let same : m ≡ l = ap (λ (p : Label2 × Option (List ℕ)). p.0) (same_found _ _ f) in ap (λ (n : Label2). let found : Option (Label2 × Option Label2) = Some (n, None) in found) same
+
+    named : (o : Option Label2) (p : Option (List ℕ)) → (o >>= (λ (m : Label2). p >>= (λ (name : List ℕ). let found : Option (Label2 × Option (List ℕ)) = Some (m, Some name) in found))) ≡ Some (l, None) → ⊥
+    named None p f = absurd (cc)
+    named (Some m) None f = absurd (cc)
+    named (Some m) (Some name) f = let no : Some name ≡ None = ap (λ (q : Label2 × Option (List ℕ)). q.1) (same_found _ _ f) in absurd (cc)
+
+    by_cut : (o : Option (List ℕ × List ℕ)) → case_by text o ≡ Some (l, None) → labels_by text o ≡ Some (l, None)
+    by_cut None f = alone (label_of text) f
+    by_cut (Some parts) f = absurd (named (label_of parts.0) (identifier_of parts.1) f)
+
+pub to_case : (rest : Option (List ℕ)) (l : Label2) → (rest >>= labels_in) ≡ Some (l, None) → (rest >>= case_in) ≡ Some (l, None)
+to_case None l e = absurd (cc)
+to_case (Some text) l e = by_cut (cut 32 text) e
+  where
+    alone : (o : Option Label2) → option_map (λ (m : Label2). let found : Label2 × Option Label2 = (m, None) in found) o ≡ Some (l, None) → option_map (λ (m : Label2). let found : Label2 × Option (List ℕ) = (m, None) in found) o ≡ Some (l, None)
+    alone None f = absurd (cc)
+    alone (Some m) f = let same : m ≡ l = ap (λ (p : Label2 × Option Label2). p.0) (same_found _ _ f) in ap (λ (n : Label2). let found : Option (Label2 × Option (List ℕ)) = Some (n, None) in found) same
+
+    two : (o p : Option Label2) → (o >>= (λ (m : Label2). p >>= (λ (n : Label2). let found : Option (Label2 × Option Label2) = Some (m, Some n) in found))) ≡ Some (l, None) → ⊥
+    two None p f = absurd (cc)
+    two (Some m) None f = absurd (cc)
+    two (Some m) (Some n) f = let no : Some n ≡ None = ap (λ (q : Label2 × Option Label2). q.1) (same_found _ _ f) in absurd (cc)
+
+    by_cut : (o : Option (List ℕ × List ℕ)) → labels_by text o ≡ Some (l, None) → case_by text o ≡ Some (l, None)
+    by_cut None f = alone (label_of text) f
+    by_cut (Some parts) f = absurd (two (label_of parts.0) (label_of parts.1) f)
+
+-- a label before a name is no line of a rule
+named_no_rule : (rest : Option (List ℕ)) (l : Label2) (name : List ℕ) → (rest >>= case_in) ≡ Some (l, Some name) → rule_step_of (codes "cases") rest ≡ None
+unfolding pair_rule_of
+named_no_rule None l name e = absurd (cc)
+named_no_rule (Some text) l name e = by_cut (cut 32 text) e
+  where
+    alone : (o : Option Label2) → option_map (λ (m : Label2). let found : Label2 × Option (List ℕ) = (m, None) in found) o ≡ Some (l, Some name) → ⊥
+    alone None f = absurd (cc)
+    alone (Some m) f = let no : None ≡ Some name = ap (λ (q : Label2 × Option (List ℕ)). q.1) (same_found _ _ f) in absurd (cc)
+
+    two : (o p : Option Label2) → ((o >>= (λ (m : Label2). p >>= (λ (n : Label2). let found : Option (Label2 × Option Label2) = Some (m, Some n) in found))) >>= (λ labels. at_labels (codes "cases") labels.0 labels.1)) ≡ None
+    two None p = refl
+    two (Some m) None = refl
+    two (Some m) (Some n) = refl
+
+    by_cut : (o : Option (List ℕ × List ℕ)) → case_by text o ≡ Some (l, Some name) → (labels_by text o >>= (λ labels. at_labels (codes "cases") labels.0 labels.1)) ≡ None
+    by_cut None f = absurd (alone (label_of text) f)
+    by_cut (Some parts) f = two (label_of parts.0) (label_of parts.1)
+
 -- the step, where it is of a rule
 abbrev pub rule_part : Step → Option Step
 rule_part (Intro names) = None
@@ -138,9 +202,11 @@ rule_part (Hyp label) = None
 rule_part Split = None
 rule_part (Lin multiples) = None
 rule_part (Rewrite rewriting) = None
+rule_part (Decide label target) = None
 rule_part (OnTerm rule t) = None
 rule_part (Divide t u) = None
 rule_part (Instantiate label ts) = None
+rule_part (Unpack label name) = None
 rule_part (ByVariants t names) = None
 rule_part (Induct x names) = None
 rule_part rule = Some rule
@@ -156,4 +222,14 @@ rule_read table (Some rest) (OnTwo rule label other) h = ap (λ found. found >>=
 rule_read table rest (OnTerm Cut t) h = no_rule (term_word Cut) refl refl refl rest
 rule_read table rest (OnTerm On t) h = no_rule (term_word On) refl refl refl rest
 rule_read table rest (OnTerm Range t) h = no_rule (term_word Range) refl refl refl rest
+rule_read table rest (OnTerm Witness t) h = no_rule (term_word Witness) refl refl refl rest
+rule_read table rest (OnTerm Eta t) h = no_rule (term_word Eta) refl refl refl rest
+rule_read table rest (Unpack label name) h = named_no_rule rest label h.0 h.1
 rule_read table rest s h = no_rule (word_of s) refl refl refl rest
+
+-- the line of a rule by one hypothesis is a step's
+pub hypothesis_step : (table : List (List ℕ)) (rule : HypothesisRule) (rest : Option (List ℕ)) (l : Label2) → (rest >>= labels_in) ≡ Some (l, None) → is_step (hypothesis_word rule) rest ≡ true
+unfolding is_step is_plain_step term_line_of
+hypothesis_step table Cases rest l h = ap is_some (to_case rest l h)
+hypothesis_step table Absurd rest l h = ap is_some (rule_read table rest (OnHypothesis Absurd l) h)
+hypothesis_step table rule rest l h = ap is_some (rule_read table rest (OnHypothesis rule l) h)

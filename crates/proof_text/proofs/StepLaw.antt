@@ -6,9 +6,11 @@ use Rattle.std.specs.Option.{option_map}
 use Rattle.std.specs.Str.{bytes_eq, is_utf8}
 use Rattle.std.proofs.lemmas.Slice.Eq.{bytes_eq-Decides}
 use Rattle.proof_kernel.specs.declared.step.Step.{Step}
+use Rattle.proof_kernel.specs.declared.step.HypothesisRule.TheVariants.{Cases}
+use Rattle.proof_kernel.specs.declared.step.Target.{Target}
 use Rattle.proof_kernel.specs.declared.step.TermRule.{TermRule}
-use Rattle.proof_kernel.specs.declared.step.TermRule.TheVariants.{Cut, On, Range}
-use Rattle.proof_kernel.specs.declared.step.Step.TheVariants.{Intro, Hyp, Split, Lin, OnGoal, OnHypothesis, OnTwo, Rewrite, OnTerm, Divide, Instantiate, ByVariants, Induct}
+use Rattle.proof_kernel.specs.declared.step.TermRule.TheVariants.{Cut, On, Range, Witness, Eta}
+use Rattle.proof_kernel.specs.declared.step.Step.TheVariants.{Intro, Hyp, Split, Lin, OnGoal, OnHypothesis, OnTwo, Rewrite, Decide, OnTerm, Divide, Instantiate, Unpack, ByVariants, Induct}
 use Rattle.logic_term.specs.declared.kinds.Label2.{Label2}
 use Rattle.source_trees.specs.Pterm.{Pterm}
 use Rattle.term_texts.specs.TermTexts.{SpellsWholeTerm, IsTermText, NamesOfTerm}
@@ -21,12 +23,12 @@ use Rattle.rs_tokens.specs.Tokens.{is_identifier}
 use Rattle.proof_text.specs.declared.rule_words.TermLine.{TermLine}
 use Rattle.proof_text.specs.declared.rule_words.TermLine.TheVariants.{Rule, Division, Instance}
 use Rattle.proof_text.specs.ProofTextWords.{◌>>=◌, Each, label_of, two_texts, label_and_text}
-use Rattle.proof_text.specs.ProofTextRules.{rewriting_in, term_word, line_word, term_line_of}
-use Rattle.proof_text.specs.ProofTextLines.{head_of, rest_of, words_of, text_at, multiples_in, word_of, SpellsRest, SpellsParts, SpellsStep, texts_by, term_behind, NamesInTerm, NamesInTwo, NamesByLine, NamesOfParts, NamesTexts}
+use Rattle.proof_text.specs.ProofTextRules.{rewriting_in, place_in, term_word, term_line_of}
+use Rattle.proof_text.specs.ProofTextLines.{head_of, rest_of, words_of, text_at, case_in, name_listed, name_in_case, multiples_in, word_of, SpellsRest, SpellsParts, SpellsStep, texts_by, term_behind, NamesInTerm, NamesInTwo, NamesByLine, NamesOfParts, NamesTexts}
 use Rattle.proof_text.specs.ProofTextFile.{is_plain_step, is_left, is_term, is_term_rest, are_terms, is_step_by, is_step, step, line_if, line_by_head, line_of, rule_step_of}
 use Rattle.proof_text.specs.ProofTextLaws.{AlikeStep}
 use Rattle.proof_text.proofs.LineLaw.{is_plain, text_line}
-use Rattle.proof_text.proofs.RuleLaw.{rule_there, goal_head, hypothesis_head, pair_head, term_found, term_spelled, rule_part, rule_read}
+use Rattle.proof_text.proofs.RuleLaw.{rule_there, to_labels, hypothesis_step, goal_head, hypothesis_head, pair_head, term_found, term_spelled, rule_part, rule_read}
 
 -- ---- a text is a term, or is none
 
@@ -84,7 +86,9 @@ rest_is table rest Split h = ap is_none h
 rest_is table rest (Lin ms) h = ap is_some h
 rest_is table rest (Rewrite r) h = ap is_some h
 rest_is table rest (OnGoal r) h = (goal_head r).2 rest ∙ ap is_some (rule_read table rest (OnGoal r) h)
-rest_is table rest (OnHypothesis r l) h = (hypothesis_head r).2 rest ∙ ap is_some (rule_read table rest (OnHypothesis r l) h)
+rest_is table rest (OnHypothesis r l) h = hypothesis_step table r rest l h
+rest_is table rest (Decide l to) h = ap is_some h
+rest_is table rest (Unpack l x) h = ap is_some h.1
 rest_is table rest (OnTerm r t) h = term_rest table rest r t h
 rest_is table rest (Divide t u) h = two_rest table rest t u h
 rest_is table rest (Instantiate l ts) h = instance_rest table rest l ts h
@@ -100,6 +104,8 @@ by_word (OnTwo r l m) rest = (pair_head r).1 rest
 by_word (OnTerm Cut t) rest = refl
 by_word (OnTerm On t) rest = refl
 by_word (OnTerm Range t) rest = refl
+by_word (OnTerm Witness t) rest = refl
+by_word (OnTerm Eta t) rest = refl
 by_word _ rest = refl
 
 word_plain : (s : Step) → is_plain (word_of s) ≡ true
@@ -109,6 +115,8 @@ word_plain (OnTwo r l m) = (pair_head r).0
 word_plain (OnTerm Cut t) = refl
 word_plain (OnTerm On t) = refl
 word_plain (OnTerm Range t) = refl
+word_plain (OnTerm Witness t) = refl
+word_plain (OnTerm Eta t) = refl
 word_plain _ = refl
 
 pub parts_are : (table : List (List ℕ)) (head : List ℕ) (rest : Option (List ℕ)) (s : Step) → SpellsParts table head rest s → is_step head rest ≡ true
@@ -143,23 +151,34 @@ same_head head word e = (bytes_eq-Decides head word).0 e
 abbrev Spelled : List (List ℕ) → List ℕ → Option (List ℕ) → Type 0
 Spelled table head rest = (s : Step) × SpellsParts table head rest s
 
-by_words : (table : List (List ℕ)) (head : List ℕ) (rest : Option (List ℕ)) (a b c d e : Bool) → bytes_eq head (codes "intro") ≡ a → bytes_eq head (codes "hyp") ≡ b → bytes_eq head (codes "split") ≡ c →
-    bytes_eq head (codes "lin") ≡ d → bytes_eq head (codes "rewrite") ≡ e →
-    cond a (list_all is_identifier (words_of rest)) (cond b (is_some (rest >>= label_of)) (cond c (is_none rest) (cond d (is_some (rest >>= multiples_in)) (cond e (is_some (rest >>= rewriting_in)) (is_some (rule_step_of head rest)))))) ≡ true →
-    AreNamed table (cond a (words_of rest) []) → Spelled table head rest
-by_words table head rest true b c d e p q r s t is named =
+-- behind `cases`
+case_there : (table : List (List ℕ)) (head : List ℕ) (rest : Option (List ℕ)) (l : Label2) (o : Option (List ℕ)) → (rest >>= case_in) ≡ Some (l, o) → head ≡ codes "cases" → AreNamed table (name_listed o) → Spelled table head rest
+case_there table head rest l None e w named = (OnHypothesis Cases l, (w, to_labels rest l e))
+case_there table head rest l (Some text) e w named = (Unpack l named.0.0, (w, (text, e, named.0.1)))
+
+by_words : (table : List (List ℕ)) (head : List ℕ) (rest : Option (List ℕ)) (a b c d e f g : Bool) → bytes_eq head (codes "intro") ≡ a → bytes_eq head (codes "hyp") ≡ b → bytes_eq head (codes "split") ≡ c →
+    bytes_eq head (codes "lin") ≡ d → bytes_eq head (codes "rewrite") ≡ e → bytes_eq head (codes "cond") ≡ f → bytes_eq head (codes "cases") ≡ g →
+    cond a (list_all is_identifier (words_of rest)) (cond b (is_some (rest >>= label_of)) (cond c (is_none rest) (cond d (is_some (rest >>= multiples_in)) (cond e (is_some (rest >>= rewriting_in))
+    (cond f (is_some (rest >>= place_in)) (cond g (is_some (rest >>= case_in)) (is_some (rule_step_of head rest)))))))) ≡ true →
+    AreNamed table (cond a (words_of rest) (cond g (name_in_case (rest >>= case_in)) [])) → Spelled table head rest
+by_words table head rest true b c d e f g p q r s t u v is named =
     let names = names_there table (words_of rest) named in (Intro names.0, (same_head head (codes "intro") p, (is, names.1)))
-by_words table head rest false true c d e p q r s t is named = let l = some_of (rest >>= label_of) is in (Hyp l.0, (same_head head (codes "hyp") q, l.1))
-by_words table head rest false false true d e p q r s t is named = (Split, (same_head head (codes "split") r, none_of rest is))
-by_words table head rest false false false true e p q r s t is named = let ms = some_of (rest >>= multiples_in) is in (Lin ms.0, (same_head head (codes "lin") s, ms.1))
-by_words table head rest false false false false true p q r s t is named = let found = some_of (rest >>= rewriting_in) is in (Rewrite found.0, (same_head head (codes "rewrite") t, found.1))
-by_words table head rest false false false false false p q r s t is named = let found = some_of (rule_step_of head rest) is in (found.0, rule_there table head found.0 rest found.1)
+by_words table head rest false true c d e f g p q r s t u v is named = let l = some_of (rest >>= label_of) is in (Hyp l.0, (same_head head (codes "hyp") q, l.1))
+by_words table head rest false false true d e f g p q r s t u v is named = (Split, (same_head head (codes "split") r, none_of rest is))
+by_words table head rest false false false true e f g p q r s t u v is named = let ms = some_of (rest >>= multiples_in) is in (Lin ms.0, (same_head head (codes "lin") s, ms.1))
+by_words table head rest false false false false true f g p q r s t u v is named = let found = some_of (rest >>= rewriting_in) is in (Rewrite found.0, (same_head head (codes "rewrite") t, found.1))
+by_words table head rest false false false false false true g p q r s t u v is named =
+    let found = some_of (rest >>= place_in) is in (Decide found.0.0 found.0.1, (same_head head (codes "cond") u, found.1))
+by_words table head rest false false false false false false true p q r s t u v is named =
+    let found = some_of (rest >>= case_in) is in
+    case_there table head rest found.0.0 found.0.1 found.1 (same_head head (codes "cases") v) (subst (λ (o : Option (Label2 × Option (List ℕ))). AreNamed table (name_in_case o)) found.1 named)
+by_words table head rest false false false false false false false p q r s t u v is named = let found = some_of (rule_step_of head rest) is in (found.0, rule_there table head found.0 rest found.1)
 
 plain_there : (table : List (List ℕ)) (head : List ℕ) (rest : Option (List ℕ)) → is_plain_step head rest ≡ true → AreNamed table (texts_by head rest) → Spelled table head rest
 unfolding is_plain_step texts_by
 plain_there table head rest is named =
     by_words table head rest (bytes_eq head (codes "intro")) (bytes_eq head (codes "hyp")) (bytes_eq head (codes "split")) (bytes_eq head (codes "lin")) (bytes_eq head (codes "rewrite"))
-    refl refl refl refl refl is named
+    (bytes_eq head (codes "cond")) (bytes_eq head (codes "cases")) refl refl refl refl refl refl refl is named
 
 term_line : (table : List (List ℕ)) (head : List ℕ) (rest : Option (List ℕ)) (rule : TermRule) (texts : List (List ℕ)) → term_line_of head ≡ Some (Rule rule) → is_term_rest rest ≡ true → NamesInTerm rest texts → AreNamed table texts →
     Spelled table head rest
@@ -274,6 +293,7 @@ module _ (old new : List (List ℕ)) (keeps : KeepsTexts old new) where
   kept_rest rest (OnTerm r t) h = (h.0, h.1, kept_term old new keeps h.0 t h.2)
   kept_rest rest (Divide t u) h = (h.0, h.1, kept_term old new keeps h.0.0 t h.2, kept_term old new keeps h.0.1 u h.3)
   kept_rest rest (Instantiate l ts) h = (h.0, h.1, h.2, h.3, kept_term old new keeps h.0 h.1 h.4)
+  kept_rest rest (Unpack l x) h = (h.0, h.1, keeps x.0 h.0 h.2)
   kept_rest rest _ h = h
 
   pub kept_step : (text : List ℕ) (s : Step) → SpellsStep old text s → SpellsStep new text s
@@ -283,6 +303,9 @@ module _ (old new : List (List ℕ)) (keeps : KeepsTexts old new) where
 
 same_pair : (p q : Label2 × List ℕ) → Some p ≡ Some q → p ≡ q
 same_pair p q e = cc
+
+same_found : {A : Type 0} (p q : Label2 × A) → Some p ≡ Some q → p ≡ q
+same_found p q e = cc
 
 module _ (table other : List (List ℕ)) (rest : Option (List ℕ)) where
   abbrev AlikeTerm : Pterm → Pterm → Type 0
@@ -316,6 +339,12 @@ module _ (table other : List (List ℕ)) (rest : Option (List ℕ)) where
   alike_rest Split Split e r h k = tt
   alike_rest (Lin ms) (Lin ns) e r h k = let same : Some ms ≡ Some ns = sym h ∙ k in cc
   alike_rest (Rewrite a) (Rewrite b) e r h k = let same : Some a ≡ Some b = sym h ∙ k in cc
+  alike_rest (Decide l to) (Decide m goal) e r h k =
+      let same : (l, to) ≡ (m, goal) = same_found (l, to) (m, goal) (sym h ∙ k) in
+      (ap (λ (p : Label2 × Target). p.0) same, ap (λ (p : Label2 × Target). p.1) same)
+  alike_rest (Unpack l x) (Unpack m y) e r h k =
+      let same : (l, Some h.0) ≡ (m, Some k.0) = same_found (l, Some h.0) (m, Some k.0) (sym h.1 ∙ k.1) in
+      (ap (λ (p : Label2 × Option (List ℕ)). p.0) same, h.2 ∙ (ap (λ (p : Label2 × Option (List ℕ)). p.1) same ∙ sym k.2))
   alike_rest (OnGoal a) (OnGoal b) e r h k = cc
   alike_rest (OnHypothesis a l) (OnHypothesis b m) e r h k = (cc, cc)
   alike_rest (OnTwo a l m) (OnTwo b n o) e r h k = (cc, cc, cc)
@@ -326,12 +355,18 @@ module _ (table other : List (List ℕ)) (rest : Option (List ℕ)) where
   alike_rest (OnTerm Cut t) (OnTerm Cut u) e r h k = (refl, alike_term Cut t u h k)
   alike_rest (OnTerm On t) (OnTerm On u) e r h k = (refl, alike_term On t u h k)
   alike_rest (OnTerm Range t) (OnTerm Range u) e r h k = (refl, alike_term Range t u h k)
+  alike_rest (OnTerm Witness t) (OnTerm Witness u) e r h k = (refl, alike_term Witness t u h k)
+  alike_rest (OnTerm Eta t) (OnTerm Eta u) e r h k = (refl, alike_term Eta t u h k)
   alike_rest s (OnTerm Cut u) e r h k = absurd (cc)
   alike_rest s (OnTerm On u) e r h k = absurd (cc)
   alike_rest s (OnTerm Range u) e r h k = absurd (cc)
+  alike_rest s (OnTerm Witness u) e r h k = absurd (cc)
+  alike_rest s (OnTerm Eta u) e r h k = absurd (cc)
   alike_rest (OnTerm Cut t) s e r h k = absurd (cc)
   alike_rest (OnTerm On t) s e r h k = absurd (cc)
   alike_rest (OnTerm Range t) s e r h k = absurd (cc)
+  alike_rest (OnTerm Witness t) s e r h k = absurd (cc)
+  alike_rest (OnTerm Eta t) s e r h k = absurd (cc)
   alike_rest (Divide t u) (Divide v w) e r h k = alike_two t u v w h k
   alike_rest (Instantiate l ts) (Instantiate m us) e r h k = alike_instance l m ts us h k
   alike_rest _ _ e r h k = absurd (cc)
@@ -370,6 +405,11 @@ module _ (table : List (List ℕ)) (place : HaveOnePlace (words ++ table)) where
   rest_once rest (OnGoal a) (OnGoal b) e h k = ap OnGoal e
   rest_once rest (Rewrite a) (Rewrite b) e h k = ap Rewrite e
   rest_once rest (OnHypothesis a l) (OnHypothesis b m) e h k = cc
+  rest_once rest (Decide l to) (Decide m goal) e h k = let label : l ≡ m = e.0 in let target : to ≡ goal = e.1 in cc
+  rest_once rest (Unpack l x) (Unpack m y) e h k =
+      let label : l ≡ m = e.0 in
+      let name : x ≡ y = name_once x y h.0 h.2 (sym e.1 ∙ h.2) in
+      cc
   rest_once rest (OnTwo a l m) (OnTwo b n o) e h k = cc
   rest_once rest (OnTerm a t) (OnTerm b u) e h k =
       let rule : a ≡ b = e.0 in

@@ -5,7 +5,6 @@ use Rattle.std.specs.Option.{ok_or, option_copied}
 use Rattle.name_tables.specs.NameTables.{with_names}
 use Rattle.proof_kernel.specs.declared.step.Step.{Step}
 use Rattle.proof_kernel.specs.declared.step.TermRule.{TermRule}
-use Rattle.proof_text.specs.declared.rule_words.TermLine.{TermLine}
 use Rattle.proof_text.specs.declared.rule_words.TermLine.TheVariants.{Rule, Division, Instance}
 use Rattle.source_words.specs.Words.{GivesNames}
 use Rattle.proof_text.specs.declared.fault.Fault.{Fault}

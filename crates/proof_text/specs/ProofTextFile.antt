@@ -15,8 +15,8 @@ use Rattle.proof_text.specs.ProofTextWords.{◌>>=◌, Each, label_of, two_texts
 use Rattle.proof_text.specs.declared.rule_words.TermLine.{TermLine}
 use Rattle.proof_text.specs.declared.rule_words.TermLine.TheVariants.{Rule, Division, Instance}
 use Rattle.term_texts.proofs.TermChoice.{term_there}
-use Rattle.proof_text.specs.ProofTextRules.{labels_in, rewriting_in, goal_rule_of, hypothesis_rule_of, pair_rule_of, term_line_of}
-use Rattle.proof_text.specs.ProofTextLines.{head_of, rest_of, words_of, multiples_in, heading_of, term_behind, SpellsStep}
+use Rattle.proof_text.specs.ProofTextRules.{labels_in, rewriting_in, place_in, goal_rule_of, hypothesis_rule_of, pair_rule_of, term_line_of}
+use Rattle.proof_text.specs.ProofTextLines.{head_of, rest_of, words_of, case_in, multiples_in, heading_of, term_behind, SpellsStep}
 pub use Rattle.proof_text.specs.ProofFileForm.{SpellsProofs, HasNamesOf, IsFirstBadLine}
 
 -- ---- lines
@@ -39,6 +39,8 @@ is_plain_step head rest =
     else if bytes_eq head (codes "split") then is_none rest
     else if bytes_eq head (codes "lin") then is_some (rest >>= multiples_in)
     else if bytes_eq head (codes "rewrite") then is_some (rest >>= rewriting_in)
+    else if bytes_eq head (codes "cond") then is_some (rest >>= place_in)
+    else if bytes_eq head (codes "cases") then is_some (rest >>= case_in)
     else is_some (rule_step_of head rest)
 
 abbrev pub is_left : {A B : Type 0} → A ⊎ B → Bool

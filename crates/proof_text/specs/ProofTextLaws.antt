@@ -2,7 +2,7 @@
 use Rattle.std.specs.Prelude.{◌≡◌, ◌⊎◌, ℕ, List, ◌++◌, map}
 use Rattle.text_core.specs.Names.{words, HaveOnePlace}
 use Rattle.proof_kernel.specs.declared.step.Step.{Step}
-use Rattle.proof_kernel.specs.declared.step.Step.TheVariants.{Intro, Hyp, Split, Lin, OnGoal, OnHypothesis, OnTwo, Rewrite, OnTerm, Divide, Instantiate}
+use Rattle.proof_kernel.specs.declared.step.Step.TheVariants.{Intro, Hyp, Split, Lin, OnGoal, OnHypothesis, OnTwo, Rewrite, Decide, OnTerm, Divide, Instantiate, Unpack}
 use Rattle.source_trees.specs.Pterm.{Pterm}
 use Rattle.proof_text.specs.declared.proof.NumberedStep.{NumberedStep}
 use Rattle.proof_text.specs.declared.proof.Proof.{Proof}
@@ -24,10 +24,12 @@ AlikeStep table other (OnGoal r) (OnGoal s) = r ≡ s
 AlikeStep table other (OnHypothesis r l) (OnHypothesis s m) = (r ≡ s) × (l ≡ m)
 AlikeStep table other (OnTwo r k l) (OnTwo s m n) = (r ≡ s) × (k ≡ m) × (l ≡ n)
 AlikeStep table other (Rewrite r) (Rewrite s) = r ≡ s
+AlikeStep table other (Decide l to) (Decide m goal) = (l ≡ m) × (to ≡ goal)
 AlikeStep table other (OnTerm r t) (OnTerm s u) = (r ≡ s) × ((text : List ℕ) × SpellsWholeTerm table text t × SpellsWholeTerm other text u)
 AlikeStep table other (Divide t u) (Divide v w) =
     ((text : List ℕ) × SpellsWholeTerm table text t × SpellsWholeTerm other text v) × ((text : List ℕ) × SpellsWholeTerm table text u × SpellsWholeTerm other text w)
 AlikeStep table other (Instantiate l ts) (Instantiate m us) = (l ≡ m) × Each (λ (t u : Pterm). (text : List ℕ) × SpellsWholeTerm table text t × SpellsWholeTerm other text u) ts us
+AlikeStep table other (Unpack l x) (Unpack m y) = (l ≡ m) × (text_at table x ≡ text_at other y)
 AlikeStep table other _ _ = ⊥
 
 abbrev pub AlikeProof : List (List ℕ) → List (List ℕ) → Proof → Proof → Type 0

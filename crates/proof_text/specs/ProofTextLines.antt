@@ -10,12 +10,12 @@ use Rattle.logic_term.specs.declared.kinds.Label2.{Label2}
 use Rattle.source_trees.specs.Pterm.{Pterm}
 use Rattle.proof_kernel.specs.declared.step.Multiple.{Multiple}
 use Rattle.proof_kernel.specs.declared.step.Step.{Step}
-use Rattle.proof_kernel.specs.declared.step.Step.TheVariants.{Intro, Hyp, Split, Lin, OnGoal, OnHypothesis, OnTwo, Rewrite, OnTerm, Divide, Instantiate, ByVariants, Induct}
+use Rattle.proof_kernel.specs.declared.step.Step.TheVariants.{Intro, Hyp, Split, Lin, OnGoal, OnHypothesis, OnTwo, Rewrite, Decide, OnTerm, Divide, Instantiate, Unpack, ByVariants, Induct}
 use Rattle.rs_tokens.specs.Tokens.{is_identifier}
 use Rattle.proof_text.specs.declared.rule_words.TermLine.{TermLine}
 use Rattle.proof_text.specs.declared.rule_words.TermLine.TheVariants.{Rule, Division, Instance}
 use Rattle.proof_text.specs.ProofTextWords.{◌>>=◌, number_of, label_of, multiple_of, cut, two_texts, label_and_text}
-use Rattle.proof_text.specs.ProofTextRules.{goal_word, hypothesis_word, pair_word, term_word, labels_in, rewriting_in, term_line_of}
+use Rattle.proof_text.specs.ProofTextRules.{goal_word, hypothesis_word, pair_word, term_word, labels_in, rewriting_in, place_in, term_line_of}
 use Rattle.term_texts.specs.TermTexts.{SpellsWholeTerm, NamesOfTerm}
 pub use Rattle.term_texts.specs.TermTexts.{text_at}
 
@@ -39,6 +39,17 @@ words_of (Some rest) = slice_split (λ b. b == 32) rest
 -- owners and names are identifiers of sources
 abbrev pub identifier_of : List ℕ → Option (List ℕ)
 identifier_of word = if is_identifier word then Some word else None
+
+-- what stands behind `cases`: a label, alone or before a name
+abbrev pub case_by : List ℕ → Option (List ℕ × List ℕ) → Option (Label2 × Option (List ℕ))
+case_by rest None = option_map (λ label. (label, None)) (label_of rest)
+case_by rest (Some parts) = do
+  label ← label_of parts.0
+  name ← identifier_of parts.1
+  Some (label, Some name)
+
+abbrev pub case_in : List ℕ → Option (Label2 × Option (List ℕ))
+case_in rest = case_by rest (cut 32 rest)
 
 -- what each of the words spells
 abbrev pub multiples_of : List (List ℕ) → Option (List Multiple)
@@ -64,9 +75,11 @@ word_of (OnGoal rule) = goal_word rule
 word_of (OnHypothesis rule label) = hypothesis_word rule
 word_of (OnTwo rule label other) = pair_word rule
 word_of (Rewrite rewriting) = codes "rewrite"
+word_of (Decide label target) = codes "cond"
 word_of (OnTerm rule t) = term_word rule
 word_of (Divide t u) = codes "div"
 word_of (Instantiate label ts) = codes "inst"
+word_of (Unpack label name) = codes "cases"
 word_of (ByVariants t names) = codes "on"
 word_of (Induct x names) = codes "induct"
 
@@ -80,9 +93,11 @@ SpellsRest table rest (OnGoal rule) = rest ≡ None
 SpellsRest table rest (OnHypothesis rule label) = (rest >>= labels_in) ≡ Some (label, None)
 SpellsRest table rest (OnTwo rule label other) = (rest >>= labels_in) ≡ Some (label, Some other)
 SpellsRest table rest (Rewrite rewriting) = (rest >>= rewriting_in) ≡ Some rewriting
+SpellsRest table rest (Decide label target) = (rest >>= place_in) ≡ Some (label, target)
 SpellsRest table rest (OnTerm rule t) = (text : List ℕ) × (rest ≡ Some text) × SpellsWholeTerm table text t
 SpellsRest table rest (Divide t u) = (texts : List ℕ × List ℕ) × ((rest >>= two_texts) ≡ Some texts) × SpellsWholeTerm table texts.0 t × SpellsWholeTerm table texts.1 u
 SpellsRest table rest (Instantiate label ts) = (text : List ℕ) × (t : Pterm) × ((rest >>= label_and_text) ≡ Some (label, text)) × (ts ≡ t ∷ []) × SpellsWholeTerm table text t
+SpellsRest table rest (Unpack label name) = (text : List ℕ) × ((rest >>= case_in) ≡ Some (label, Some text)) × (text_at table name ≡ Some text)
 -- no line has these yet
 SpellsRest table rest (ByVariants t names) = ⊥
 SpellsRest table rest (Induct x names) = ⊥
@@ -95,10 +110,21 @@ SpellsParts table head rest step = (head ≡ word_of step) × SpellsRest table r
 abbrev pub SpellsStep : List (List ℕ) → List ℕ → Step → Type 0
 SpellsStep table line step = (is_utf8 line ≡ true) × SpellsParts table (head_of line) (rest_of line) step
 
--- the texts that a line of no term names, in order: those of an `intro`
+abbrev pub name_listed : Option (List ℕ) → List (List ℕ)
+name_listed None = []
+name_listed (Some name) = name ∷ []
+
+-- the name behind the label of a `cases`, where there is one
+abbrev pub name_in_case : Option (Label2 × Option (List ℕ)) → List (List ℕ)
+name_in_case None = []
+name_in_case (Some found) = name_listed found.1
+
+-- the texts that a line of no term names, in order: those of an `intro`, and that of a `cases`
 unfoldable pub texts_by : List ℕ → Option (List ℕ) → List (List ℕ)
 texts_by head rest =
-    if bytes_eq head (codes "intro") then words_of rest else []
+    if bytes_eq head (codes "intro") then words_of rest
+    else if bytes_eq head (codes "cases") then name_in_case (rest >>= case_in)
+    else []
 
 -- the texts that a line of a term names: the identifiers and lifetimes of its rest
 abbrev pub NamesInTerm : Option (List ℕ) → List (List ℕ) → Type 0

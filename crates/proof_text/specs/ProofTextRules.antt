@@ -15,7 +15,7 @@ use Rattle.proof_kernel.specs.declared.step.Rewriting.{Rewriting}
 use Rattle.proof_kernel.specs.declared.step.Target.{Target}
 use Rattle.proof_kernel.specs.declared.step.Target.TheVariants.{Goal, Hyp}
 use Rattle.proof_kernel.specs.declared.step.TermRule.{TermRule}
-use Rattle.proof_kernel.specs.declared.step.TermRule.TheVariants.{Cut, On, Range}
+use Rattle.proof_kernel.specs.declared.step.TermRule.TheVariants.{Cut, On, Range, Witness, Eta}
 use Rattle.proof_text.specs.declared.rule_words.TermLine.{TermLine}
 use Rattle.proof_text.specs.declared.rule_words.TermLine.TheVariants.{Rule, Division, Instance}
 use Rattle.proof_text.specs.ProofTextWords.{◌>>=◌, label_of, cut}
@@ -50,6 +50,8 @@ abbrev pub term_word : TermRule → List ℕ
 term_word Cut = codes "cut"
 term_word On = codes "on"
 term_word Range = codes "range"
+term_word Witness = codes "exists"
+term_word Eta = codes "eta"
 
 -- of each kind of line that ends with terms
 abbrev pub line_word : TermLine → List ℕ
@@ -98,6 +100,12 @@ rewriting_by rest (Some parts) = if bytes_eq parts.0 (codes "<") then put_in Bac
 abbrev pub rewriting_in : List ℕ → Option Rewriting
 rewriting_in rest = rewriting_by rest (cut 32 rest)
 
+-- ---- what stands behind `cond`
+
+-- `L`, or `L in K`
+abbrev pub place_in : List ℕ → Option (Label2 × Target)
+place_in rest = option_map (λ put. (put.equation, put.target)) (put_in Forward rest)
+
 -- ---- the words the other way round
 
 -- the first of these rules that has the word
@@ -115,7 +123,7 @@ abbrev pub pair_rules : List PairRule
 pair_rules = ModusPonens ∷ Contradiction ∷ Product ∷ []
 
 abbrev pub term_lines : List TermLine
-term_lines = Rule Cut ∷ Rule On ∷ Rule Range ∷ Division ∷ Instance ∷ []
+term_lines = Rule Cut ∷ Rule On ∷ Rule Range ∷ Rule Witness ∷ Rule Eta ∷ Division ∷ Instance ∷ []
 
 unfoldable pub goal_rule_of : List ℕ → Option GoalRule
 goal_rule_of word = rule_by goal_word goal_rules word

@@ -2,7 +2,7 @@
 ghost use Rattle.std.specs.Prelude.{◌≡◌};
 ghost use Rattle.std.specs.Option.{option_copied};
 ghost use Rattle.proof_text.specs.ProofTextFile.{at_labels, rule_step_of};
-ghost use Rattle.proof_text.specs.ProofTextRules.{goal_rule_of, hypothesis_rule_of, pair_rule_of, term_line_of, target_of, put_in, rewriting_in};
+ghost use Rattle.proof_text.specs.ProofTextRules.{goal_rule_of, hypothesis_rule_of, pair_rule_of, term_line_of, target_of, put_in, rewriting_in, place_in};
 
 use crate::word::{cut, label, labels};
 use logic_term::Label2;
@@ -74,6 +74,8 @@ pub(crate) fn term_line(word: &str) -> Option<TermLine>
         "cut" => Some(TermLine::Rule(TermRule::Cut)),
         "on" => Some(TermLine::Rule(TermRule::On)),
         "range" => Some(TermLine::Rule(TermRule::Range)),
+        "exists" => Some(TermLine::Rule(TermRule::Witness)),
+        "eta" => Some(TermLine::Rule(TermRule::Eta)),
         "div" => Some(TermLine::Division),
         "inst" => Some(TermLine::Instance),
         _ => None,
@@ -139,6 +141,14 @@ fn put(direction: Direction, rest: &str) -> Option<Rewriting>
             })
         }
     }
+}
+
+/// A label, alone or before `in` and another.
+pub(crate) fn place(rest: &str) -> Option<(Label2, Target)>
+    ensures { result ≡ place_in rest.now }
+{
+    let put = put(Direction::Forward, rest)?;
+    Some((put.equation, put.target))
 }
 
 /// Which equation is put where, from its first side to its second; the other way round behind `<`.

@@ -1,21 +1,22 @@
-ghost use Rattle.std.specs.Prelude.{◌≡◌, ℕ, ◌+◌, ◌^◌, ◌<◌, ◌≤◌, ◌==◌, List, [], ◌∷◌, length, map, codes, IfOk, OnOk, IsErrOf, Some, Option, false};
+ghost use Rattle.std.specs.Prelude.{◌≡◌, ℕ, ◌+◌, ◌^◌, ◌<◌, ◌≤◌, ◌==◌, List, [], ◌∷◌, length, map, codes, IfOk, OnOk, IsErrOf, Some, Option, false, is_some};
 ghost use Rattle.std.specs.List.{list_all, slice_split};
-ghost use Rattle.std.specs.Option.{option_copied};
+ghost use Rattle.std.specs.Option.{option_copied, option_map};
 ghost use Rattle.text_core.specs.Names.{text_of};
 ghost use Rattle.name_tables.specs.NameTables.{with_names};
 ghost use Rattle.rs_tokens.specs.Tokens.{is_identifier};
 ghost use Rattle.source_words.specs.Words.{GivesNames};
 ghost use Rattle.term_texts.specs.TermTexts.{SpellsWholeTerm};
 ghost use Rattle.proof_text.specs.ProofTextRules.{term_word};
-ghost use Rattle.proof_text.specs.ProofTextLines.{words_of, multiples_of, multiples_in, SpellsParts, texts_by, term_behind, NamesInTerm, NamesInTwo, NamesOfParts};
+ghost use Rattle.proof_text.specs.ProofTextLines.{words_of, multiples_of, multiples_in, SpellsParts, text_at, case_in, name_in_case, texts_by, term_behind, NamesInTerm, NamesInTwo, NamesOfParts};
 ghost use Rattle.proof_text.specs.ProofTextFile.{is_plain_step, is_term, is_term_rest, are_terms, is_step};
 ghost use Rattle.proof_text.specs.ProofTextWords.{two_texts};
 ghost use Rattle.proof_text.specs.ProofTextReads.{Reads, KeepsNames, GivesTexts, room_of};
 
 use crate::fault::Fault;
-use crate::rule_words::{TermLine, rewriting, rule_step, term_line};
-use crate::word::{label, label_and_text, multiple, two_texts};
-use proof_kernel::{Multiple, Step, TermRule};
+use crate::rule_words::{TermLine, place, rewriting, rule_step, term_line};
+use crate::word::{cut, label, label_and_text, multiple, two_texts};
+use logic_term::Label2;
+use proof_kernel::{HypothesisRule, Multiple, Step, TermRule};
 use rs_tokens::is_identifier;
 use source_trees::Pterm;
 use std::alloc::Global;
@@ -160,6 +161,51 @@ fn instance(alloc: Global, rest: &str, names: &mut Names) -> Result<Step, Fault>
     Ok(Step::Instantiate(label, terms))
 }
 
+/// A label, alone or before a name.
+fn case(rest: &str) -> Option<(Label2, Option<&str>)>
+    ensures { option_map (λ found. (found.0, option_copied found.1)) result ≡ case_in rest.now }
+{
+    match cut(rest, ' ') {
+        None => Some((label(rest)?, None)),
+        Some((first, name)) => {
+            let label = label(first)?;
+            if is_identifier(name) {
+                Some((label, Some(name)))
+            } else {
+                None
+            }
+        }
+    }
+}
+
+/// The name of the text.
+fn one_name(alloc: Global, text: &str, names: &mut Names) -> Result<Name, NoMemory>
+    requires { length names.old + 1 < 2 ^ 32 }
+    ensures named { IfOk result (λ name. text_at names.new name ≡ Some text.now) }
+    ensures table { OnOk result (names.new ≡ with_names names.old (text.now ∷ [])) }
+    ensures kept { KeepsNames names.old names.new }
+    ensures grown { length names.new ≤ length names.old + 1 }
+{
+    names.intern(alloc, text)
+}
+
+/// `LABEL`, or `LABEL NAME`
+#[tactic(auto, using(crate::proofs::RuleLaw::to_labels))]
+fn cases(alloc: Global, rest: &str, names: &mut Names) -> Result<Step, Fault>
+    requires { length names.old + 1 < 2 ^ 32 }
+    ensures said { IfOk result (λ step. SpellsParts names.new (codes "cases") (Some rest.now) step) }
+    ensures bad { IsErrOf result Fault.Bad → is_some (case_in rest.now) ≡ false }
+    ensures table { OnOk result (names.new ≡ with_names names.old (name_in_case (case_in rest.now))) }
+    ensures kept { KeepsNames names.old names.new }
+    ensures grown { length names.new ≤ length names.old + 1 }
+{
+    let (label, name) = case(rest).ok_or(Fault::Bad)?;
+    match name {
+        None => Ok(Step::OnHypothesis(HypothesisRule::Cases, label)),
+        Some(name) => Ok(Step::Unpack(label, one_name(alloc, name, names)?)),
+    }
+}
+
 /// A step without a term, by the first word of its line and the rest.
 #[tactic(auto, unfolding(crate::specs::ProofTextFile::is_plain_step, crate::specs::ProofTextLines::texts_by))]
 fn plain_step(
@@ -192,6 +238,12 @@ fn plain_step(
             let rest = rest.ok_or(Fault::Bad)?;
             Ok(Step::Rewrite(rewriting(rest).ok_or(Fault::Bad)?))
         }
+        "cond" => {
+            let rest = rest.ok_or(Fault::Bad)?;
+            let (label, target) = place(rest).ok_or(Fault::Bad)?;
+            Ok(Step::Decide(label, target))
+        }
+        "cases" => cases(alloc, rest.ok_or(Fault::Bad)?, names),
         _ => rule_step(head, rest).ok_or(Fault::Bad),
     }
 }
