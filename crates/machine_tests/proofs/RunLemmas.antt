@@ -10,9 +10,10 @@ use Rattle.logic_term.specs.declared.kinds.Ctor.TheVariants.{Tuple}
 use Rattle.source_kinds.specs.declared.kinds.IntKind.TheVariants.{I32}
 use Rattle.logic_term.specs.declared.kinds.Label.{Label}
 use Rattle.source_kinds.specs.Range.{fits, widens}
-use Rattle.logic_term.specs.Sort.{instance}
-use Rattle.logic_term.specs.Theory.{Theory, declared, nothing_declared}
-use Rattle.logic_term.specs.Ty.{Ty, Tys, int, bool, no_tys, and_ty, unit_ty}
+use Rattle.logic_term.specs.Sort.{Declarations, instance}
+use Rattle.logic_term.specs.Theory.{Theory, declared, fields_of, variant_of}
+use Rattle.mir_ir.specs.Declares.{theory_in}
+use Rattle.logic_term.specs.Ty.{Ty, Tys, int, bool, param, no_tys, and_ty, unit_ty}
 use Rattle.mir_ir.specs.declared.place.Lit.TheVariants as lit
 use Rattle.mir_ir.specs.declared.place.Operand.{Operand}
 use Rattle.mir_ir.specs.declared.place.Operand.TheVariants.{Copy, Const}
@@ -22,6 +23,7 @@ use Rattle.mir_ir.specs.declared.statement.Statement.{Statement}
 use Rattle.mir_ir.specs.declared.body.Block.{Block}
 use Rattle.mir_ir.specs.declared.body.Body.{Body}
 use Rattle.mir_ir.specs.Body.{block_in}
+use Rattle.mir_ir.specs.Layout.{among}
 use Rattle.mir_ir.specs.WellFormed.{HasBlock, operation_ty, IsSigned, RvalueHas, StatementIsTyped, EndIsTyped, IsTyped, Locals, without, with, Within, parameters, IsInitialised, AreSound}
 use Rattle.mir_ir.proofs.Taking.{rows_together, CanEvaluate, evaluated, CanRun, run, CanEnd, Carries}
 use Rattle.mir_machine.specs.Tree.{Tree, Int, Truth, trees_of}
@@ -29,7 +31,7 @@ use Rattle.mir_machine.specs.Frame.{State}
 use Rattle.mir_machine.specs.Step.{whole}
 use Rattle.mir_machine.specs.Typed.{Met, Typed, AreTyped, is_int, is_truth, none_typed, more_typed}
 use Rattle.mir_machine.specs.Good.{IsProper, called}
-use Rattle.machine_tests.specs.Run.{sample, absolute, calling, panicking, alone, program, IsScalarOf, TakesOne}
+use Rattle.machine_tests.specs.Run.{sample, absolute, calling, panicking, alone, program, option_decl, option_id, option_ty, option_of, choosing_body, choosing, label, IsScalarOf, TakesOne}
 use Rattle.mir_ir.specs.declared.body.Bodies.{Bodies}
 
 -- ---- bodies, block by block
@@ -68,11 +70,11 @@ statement_found P i (s ∷ sts) (suc j) st h e = subst (λ n. P n st) (there i j
 abbrev Sets : Type 0
 Sets = ℕ → ℕ → Locals
 
-abbrev StatementIsSound : Body → Sets → Label → ℕ → Statement → Type 0
-StatementIsSound b sets l i st = StatementIsTyped b st.kind × CanRun (sets l.0 i) st.kind × Within (sets l.0 (i + 1)) (run st.kind (sets l.0 i))
+abbrev StatementIsSound : Bodies → Body → Sets → Label → ℕ → Statement → Type 0
+StatementIsSound bodies b sets l i st = StatementIsTyped bodies b st.kind × CanRun (sets l.0 i) st.kind × Within (sets l.0 (i + 1)) (run st.kind (sets l.0 i))
 
 record BlockIsSound (bodies : Bodies) (b : Body) (sets : Sets) (l : Label) (k : Block) : Type 0 where
-  statements : EachStatement (StatementIsSound b sets l) 0 k.statements
+  statements : EachStatement (StatementIsSound bodies b sets l) 0 k.statements
   typed : EndIsTyped bodies b k.end.kind
   can_end : CanEnd (sets l.0 (length k.statements)) k.end.kind
   carries : Carries (λ l'. sets l'.0 0) (sets l.0 (length k.statements)) k.end.kind
@@ -110,10 +112,10 @@ body_sound bodies b sets f numbered h = (
     found : (l : Label) (k : Block) → block_in b.blocks l ≡ Some k → BlockIsSound bodies b sets l k
     found l k is_block = block_found (BlockIsSound bodies b sets) b.blocks l k h.blocks is_block
 
-    at : (l : Label) (k : Block) (i : ℕ) (st : Statement) → block_in b.blocks l ≡ Some k → slice_get k.statements i ≡ Some st → StatementIsSound b sets l i st
+    at : (l : Label) (k : Block) (i : ℕ) (st : Statement) → block_in b.blocks l ≡ Some k → slice_get k.statements i ≡ Some st → StatementIsSound bodies b sets l i st
     at l k i st is_block is_statement =
-        subst (λ n. StatementIsSound b sets l n st) (from_zero i)
-        (statement_found (StatementIsSound b sets l) 0 k.statements i st (block_found (BlockIsSound bodies b sets) b.blocks l k h.blocks is_block).statements is_statement)
+        subst (λ n. StatementIsSound bodies b sets l n st) (from_zero i)
+        (statement_found (StatementIsSound bodies b sets l) 0 k.statements i st (block_found (BlockIsSound bodies b sets) b.blocks l k h.blocks is_block).statements is_statement)
       where
         from_zero : (i : ℕ) → 0 + i ≡ i
         from_zero i = omega arith
@@ -124,7 +126,7 @@ abbrev one_sets : Body → Rvalue → Sets
 one_sets b r l zero = parameters b
 one_sets b r l (suc i) = with 0 (evaluated r (parameters b))
 
-pub sample_sound : (answer takes : Ty) (r : Rvalue) → RvalueHas (sample answer takes r) r answer → CanEvaluate (parameters (sample answer takes r)) r → AreSound (alone (sample answer takes r))
+pub sample_sound : (answer takes : Ty) (r : Rvalue) → RvalueHas (alone (sample answer takes r)) (sample answer takes r) r answer → CanEvaluate (parameters (sample answer takes r)) r → AreSound (alone (sample answer takes r))
 sample_sound answer takes r has can (suc f) b e = absurd (cc)
 sample_sound answer takes r has can zero b e =
     let s = sample answer takes r in
@@ -160,7 +162,7 @@ pub not_sound : AreSound (alone (sample bool bool (Not (Copy (whole 1)))))
 not_sound = sample_sound bool bool (Not (Copy (whole 1))) ((refl, refl), refl) refl
 
 pub unit_sound : AreSound (alone (sample unit_ty (int I32) (Make Tuple [])))
-unit_sound = sample_sound unit_ty (int I32) (Make Tuple []) (refl, refl, refl) tt
+unit_sound = sample_sound unit_ty (int I32) (Make Tuple []) ([], tt, refl) tt
 
 -- ---- a panic
 
@@ -271,25 +273,85 @@ program_sound zero b e = subst (λ c. IsTyped program c × IsInitialised c × (c
 program_sound (suc zero) b e = subst (λ c. IsTyped program c × IsInitialised c × (c.id ≡ 1)) (same_Some _ _ e) (body_sound program calling calling_sets 1 refl calling_sound)
 program_sound (suc (suc f)) b e = absurd (cc)
 
+-- ---- a switch
+
+-- behind the first block's statement
+abbrev chosen : Rvalue → Locals
+chosen r = with 2 (evaluated r (parameters (choosing_body r)))
+
+abbrev choosing_sets : Rvalue → Sets
+choosing_sets r zero zero = parameters (choosing_body r)
+choosing_sets r zero (suc i) = chosen r
+choosing_sets r (suc l) zero = chosen r
+choosing_sets r (suc l) (suc i) = with 0 (chosen r)
+
+leads_on : (r : Rvalue) (n : ℕ) → among (label n) (label 1 ∷ label 2 ∷ []) ≡ true → Within (choosing_sets r n 0) (chosen r)
+leads_on r zero e = absurd (cc)
+leads_on r (suc n) e = λ x h. h
+
+sides : (r : Rvalue) (k : ℕ) (l : Label) → slice_get (label 1 ∷ label 2 ∷ []) k ≡ Some l → HasBlock (choosing_body r) l
+sides r zero l e = subst (HasBlock (choosing_body r)) (same_Some _ _ e) (_, refl)
+sides r (suc zero) l e = subst (HasBlock (choosing_body r)) (same_Some _ _ e) (_, refl)
+sides r (suc (suc k)) l e = absurd (cc)
+
+choosing_sound : (r : Rvalue) → RvalueHas (choosing r) (choosing_body r) r option_ty → CanEvaluate (parameters (choosing_body r)) r → BodyIsSound (choosing r) (choosing_body r) (choosing_sets r)
+choosing_sound r has can = record {
+  ground = refl;
+  named = refl;
+  answers = omega arith;
+  begins = (_, refl);
+  entry = λ x h. h;
+  blocks = (
+    record {
+      statements = (((option_ty, (refl, refl), has), can, λ x h. h), tt);
+      typed = record { number = option_id; regions = []; types = and_ty (int I32) no_tys; place = (refl, refl); declaration = option_decl; is_declared = refl; count = refl; blocks = sides r };
+      can_end = refl;
+      carries = λ m e. leads_on r m.0 e;
+    },
+    (
+      record { statements = (((int I32, (refl, refl), (refl, refl)), tt, λ x h. h), tt); typed = tt; can_end = refl; carries = tt },
+      (record { statements = (((int I32, (refl, refl), (refl, refl)), tt, λ x h. h), tt); typed = tt; can_end = refl; carries = tt }, tt),
+    ),
+  );
+}
+
+choosing_are_sound : (r : Rvalue) → RvalueHas (choosing r) (choosing_body r) r option_ty → CanEvaluate (parameters (choosing_body r)) r → AreSound (choosing r)
+choosing_are_sound r has can zero b e =
+    subst (λ c. IsTyped (choosing r) c × IsInitialised c × (c.id ≡ 0)) (same_Some _ _ e)
+    (body_sound (choosing r) (choosing_body r) (choosing_sets r) 0 refl (choosing_sound r has can))
+choosing_are_sound r has can (suc f) b e = absurd (cc)
+
+pub none_sound : (bodies : Bodies) → bodies ≡ choosing (option_of 0 []) → AreSound bodies
+none_sound bodies are = subst AreSound (sym are) (choosing_are_sound (option_of 0 []) ([], tt, ([], and_ty (int I32) no_tys, no_tys, refl, refl, refl)) tt)
+
+pub some_sound : (bodies : Bodies) → bodies ≡ choosing (option_of 1 (Copy (whole 1) ∷ [])) → AreSound bodies
+some_sound bodies are =
+    subst AreSound (sym are)
+    (choosing_are_sound (option_of 1 (Copy (whole 1) ∷ [])) (int I32 ∷ [], ((refl, refl), tt), ([], and_ty (int I32) no_tys, and_ty (param 0) no_tys, refl, refl, refl)) (refl, tt))
+
+pub choosing_takes : (bodies : Bodies) (r : Rvalue) (t : Tree (Unit {0})) (x : ℤ) → bodies ≡ choosing r → t ≡ Int x → fits I32 x ≡ true → TakesOne bodies 0 t
+choosing_takes bodies r t x are is_x x_fits = (choosing_body r, int I32, ap (λ (bs : Bodies). slice_get bs.bodies 0) are, refl, subst (IsScalarOf (int I32)) (sym is_x) x_fits)
+
 -- ---- calls
 
-scalar_typed : (s : State (Unit {0})) (ty : Ty) (t : Tree (Unit {0})) → IsScalarOf ty t → Typed (declared nothing_declared) s t ty []
-scalar_typed s (int k) (Int z) h = is_int h
-scalar_typed s bool (Truth b) h = is_truth
-scalar_typed s _ _ h = absurd h
+scalar_typed : (Δ : Declarations) (s : State (Unit {0})) (ty : Ty) (t : Tree (Unit {0})) → IsScalarOf ty t → Typed Δ s t ty []
+scalar_typed Δ s (int k) (Int z) h = is_int h
+scalar_typed Δ s bool (Truth b) h = is_truth
+scalar_typed Δ s _ _ h = absurd h
 
 -- a call at one argument, with no trees outside
 pub one_call : (bodies : Bodies) (f : ℕ) (θ : Tys) (args held : List (Tree (Unit {0}))) (t : Tree (Unit {0})) → θ ≡ no_tys → args ≡ t ∷ [] → held ≡ [] → TakesOne bodies f t →
     (Θ : Theory) × (b : Body) × (met : List Met) × IsProper Θ bodies f θ args held b met
 one_call bodies f θ args held t is_ground is_t is_empty (b, ty, is_body, params, scalar) = (
-  nothing_declared,
+  theory_in bodies,
   b,
   [],
   rw (is_ground, is_t, is_empty) (record {
     of = is_body;
+    declares = λ d decl e k. ap (λ o. fields_of (variant_of o k)) e;
     ground = refl;
     outside_typed = tt;
-    typed = subst (λ tys. AreTyped (declared nothing_declared) (called b f no_tys (t ∷ []) []) (trees_of (t ∷ [])) tys []) (sym params) (more_typed (scalar_typed (called b f no_tys (t ∷ []) []) ty t scalar) none_typed);
+    typed = subst (λ tys. AreTyped (declared (theory_in bodies)) (called b f no_tys (t ∷ []) []) (trees_of (t ∷ [])) tys []) (sym params) (more_typed (scalar_typed (declared (theory_in bodies)) (called b f no_tys (t ∷ []) []) ty t scalar) none_typed);
     outer = tt;
     apart = λ i j r q e g mutable over. absurd (cc);
   }),

@@ -18,7 +18,7 @@ use Rattle.mir_ir.specs.Body.{block_in}
 use Rattle.mir_ir.specs.Layout.{among, targets, around, Leads, on, back}
 use Rattle.prophecy_logic.specs.Graph.{Setting}
 use Rattle.prophecy_logic.specs.Walkable.{IsKnown, CanWalk}
-use Rattle.machine_tests.specs.Walked.{label, straight, panicking, branching, looping, calling, forking, IsForking}
+use Rattle.machine_tests.specs.Walked.{label, straight, panicking, branching, switching, looping, calling, forking, IsForking}
 
 same_label : (l m : Label) → (l.0 == m.0) ≡ true → l ≡ m
 same_label l m e = ap (λ n. let r : Label = record { 0 = n } in r) (eqb-true l.0 m.0 e)
@@ -93,6 +93,20 @@ pub branching_can_walk : (w : Setting) (tys : List Ty) (o : Operand) (first seco
 branching_can_walk w tys o first second is =
     with_body w (branching tys o first second) is
     (can_walk (record w { body = branching tys o first second }) _ refl refl (
+      record {
+        leads = (
+          on _ refl (omega arith) (record { outer = []; inner = []; is_around = refl; within = refl }),
+          (on _ refl (omega arith) (record { outer = []; inner = []; is_around = refl; within = refl }), tt),
+        );
+        known = tt;
+      },
+      (record { leads = tt; known = tt }, (record { leads = tt; known = tt }, tt)),
+    ))
+
+pub switching_can_walk : (w : Setting) (tys : List Ty) (first second : List Statement) → w.body ≡ switching tys first second → CanWalk w
+switching_can_walk w tys first second is =
+    with_body w (switching tys first second) is
+    (can_walk (record w { body = switching tys first second }) _ refl refl (
       record {
         leads = (
           on _ refl (omega arith) (record { outer = []; inner = []; is_around = refl; within = refl }),

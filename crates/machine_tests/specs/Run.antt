@@ -1,23 +1,30 @@
 -- The bodies that tests run.
-use Rattle.std.specs.Prelude.{◌≡◌, ℕ, pos, true, List, [], ◌∷◌, Some, None, codes, slice_get}
+use Rattle.std.specs.Prelude.{◌≡◌, ℕ, ℤ, pos, true, false, List, [], ◌∷◌, Some, None, codes, slice_get}
 use Rattle.text_core.specs.declared.name.Name.{Name}
 use Rattle.text_core.specs.declared.refusal.Cause.{Cause}
 use Rattle.text_core.specs.declared.span.Span.{Span}
 use Rattle.source_kinds.specs.declared.kinds.BinaryOp.TheVariants.{Lt}
 use Rattle.source_kinds.specs.declared.kinds.IntKind.TheVariants.{I32}
+use Rattle.logic_term.specs.declared.declaration.AdtDecl.{AdtDecl}
+use Rattle.logic_term.specs.declared.declaration.FieldDecl.{FieldDecl}
+use Rattle.logic_term.specs.declared.declaration.VariantDecl.{VariantDecl}
+use Rattle.logic_term.specs.declared.declaration.VariantKind.TheVariants.{Numbered}
+use Rattle.logic_term.specs.declared.kinds.AdtId.{AdtId}
+use Rattle.logic_term.specs.declared.kinds.Ctor.TheVariants.{Variant}
 use Rattle.logic_term.specs.declared.kinds.Label.{Label}
 use Rattle.source_kinds.specs.Range.{fits}
-use Rattle.logic_term.specs.Ty.{Ty, int, bool, no_tys, and_ty}
+use Rattle.logic_term.specs.Ty.{Ty, int, bool, adt, param, no_tys, and_ty}
 use Rattle.mir_ir.specs.declared.place.Lit.TheVariants as lit
+use Rattle.mir_ir.specs.declared.place.Operand.{Operand}
 use Rattle.mir_ir.specs.declared.place.Operand.TheVariants.{Copy, Move, Const}
 use Rattle.mir_ir.specs.declared.statement.Rvalue.{Rvalue}
-use Rattle.mir_ir.specs.declared.statement.Rvalue.TheVariants.{Use, Binary, Neg}
+use Rattle.mir_ir.specs.declared.statement.Rvalue.TheVariants.{Use, Binary, Neg, Make}
 use Rattle.mir_ir.specs.declared.statement.StatementKind.TheVariants.{Assign, Dead}
 use Rattle.mir_ir.specs.declared.statement.Statement.{Statement}
 use Rattle.mir_ir.specs.declared.terminator.FnId.TheVariants as fn_id
 use Rattle.mir_ir.specs.declared.terminator.Callee.TheVariants.{Function}
 use Rattle.mir_ir.specs.declared.terminator.TerminatorKind.{TerminatorKind}
-use Rattle.mir_ir.specs.declared.terminator.TerminatorKind.TheVariants.{Goto, If, Call, Return, Panic}
+use Rattle.mir_ir.specs.declared.terminator.TerminatorKind.TheVariants.{Goto, If, Call, Return, Panic, Switch}
 use Rattle.mir_ir.specs.declared.body.Block.{Block}
 use Rattle.mir_ir.specs.declared.body.Body.{Body}
 use Rattle.mir_ir.specs.Body.{param_tys}
@@ -90,6 +97,47 @@ alone b = of_bodies (b ∷ [])
 
 abbrev pub program : Bodies
 program = of_bodies (absolute ∷ calling ∷ [])
+
+-- ---- a switch
+
+abbrev pub variant : ℕ → List FieldDecl → VariantDecl
+variant n fields = record { name = name n; kind = Numbered; fields = fields }
+
+-- enum Option<T> { None(), Some(T) }
+abbrev pub option_decl : AdtDecl
+option_decl = record {
+  name = name 200;
+  regions = 0;
+  params = 1;
+  variants = variant 201 [] ∷ variant 202 (record { name = name 203; ty = param 0; span = sample_span } ∷ []) ∷ [];
+  is_struct = false;
+  copy = false;
+  span = sample_span;
+}
+
+abbrev pub option_id : AdtId
+option_id = record { 0 = 0 }
+
+-- Option<i32>
+abbrev pub option_ty : Ty
+option_ty = adt option_id [] (and_ty (int I32) no_tys)
+
+-- a variant of it, made of these operands
+abbrev pub option_of : ℕ → List Operand → Rvalue
+option_of k os = Make (Variant option_id k) os
+
+abbrev pub answers : ℤ → Block
+answers z = block_of (assigned 0 (Use (Const (lit.Int z I32))) ∷ []) Return
+
+-- 10 where the option is `None`, and else 11
+abbrev pub choosing_blocks : Rvalue → List (Label × Block)
+choosing_blocks r = (label 0, block_of (assigned 2 r ∷ []) (Switch (whole 2) (label 1 ∷ label 2 ∷ []))) ∷ (label 1, answers (pos 10)) ∷ (label 2, answers (pos 11)) ∷ []
+
+abbrev pub choosing_body : Rvalue → Body
+choosing_body r = body_of 0 (int I32 ∷ int I32 ∷ option_ty ∷ []) (name 100 ∷ name 101 ∷ name 102 ∷ []) (choosing_blocks r)
+
+abbrev pub choosing : Rvalue → Bodies
+choosing r = record { bodies = choosing_body r ∷ []; decls = option_decl ∷ []; impls = []; closures = [] }
 
 -- ---- calls of them
 

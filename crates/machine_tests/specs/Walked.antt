@@ -12,7 +12,7 @@ use Rattle.mir_ir.specs.declared.statement.Statement.{Statement}
 use Rattle.mir_ir.specs.declared.terminator.FnId.TheVariants.{Body as OfBody}
 use Rattle.mir_ir.specs.declared.terminator.Callee.TheVariants.{Function}
 use Rattle.mir_ir.specs.declared.terminator.TerminatorKind.{TerminatorKind}
-use Rattle.mir_ir.specs.declared.terminator.TerminatorKind.TheVariants.{Goto, If, Call, Return, Panic}
+use Rattle.mir_ir.specs.declared.terminator.TerminatorKind.TheVariants.{Goto, If, Call, Return, Panic, Switch}
 use Rattle.mir_ir.specs.declared.body.Block.{Block}
 use Rattle.mir_ir.specs.declared.body.Body.{Body}
 use Rattle.mir_ir.specs.declared.body.Head.{Head}
@@ -53,6 +53,16 @@ abbrev pub branching : List Ty → Operand → List Statement → List Statement
 branching tys o first second =
     body_of tys (
     (label 0, block_of None [] [] (If o (label 1) (label 2)))
+    ∷ (label 1, block_of None [] first Return)
+    ∷ (label 2, block_of None [] second Return)
+    ∷ []
+    )
+
+-- these statements where the parameter is of the first of two variants, those where it is of the second
+abbrev pub switching : List Ty → List Statement → List Statement → Body
+switching tys first second =
+    body_of tys (
+    (label 0, block_of None [] [] (Switch (whole 1) (label 1 ∷ label 2 ∷ [])))
     ∷ (label 1, block_of None [] first Return)
     ∷ (label 2, block_of None [] second Return)
     ∷ []

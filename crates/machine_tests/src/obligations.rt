@@ -1,10 +1,13 @@
 //! Obligations of one body of each shape, and how many there may be.
 ghost use Rattle.std.specs.Prelude.{◌≡◌, ◌<◌, ◌∷◌, [], None, IfOk};
 ghost use Rattle.mir_ir.specs.declared.terminator.TerminatorKind.TheVariants.{If};
-ghost use Rattle.machine_tests.specs.Walked.{block_of, body_of, whole, straight, panicking, branching, looping, calling, forking, IsForking, CanBeWalked};
+ghost use Rattle.machine_tests.specs.Walked.{block_of, body_of, whole, straight, panicking, branching, switching, looping, calling, forking, IsForking, CanBeWalked};
 
 use goal_text::{Spelling, goal_text};
-use logic_term::{Contract, Label, Obligation, Term, Ty, TyNode};
+use logic_term::{
+    AdtDecl, AdtId, CompoundTy, Contract, Ctor, FieldDecl, Label, Obligation, Term, Ty, TyNode,
+    TyUnary, VariantDecl, VariantKind,
+};
 use mir_ir::{
     Block, Body, Callee, Contracts, FnId, Head, Initialised, Lit, Operand, Place, Resolves, Rvalue,
     Statement, StatementKind, Terminator, TerminatorKind,
@@ -12,6 +15,7 @@ use mir_ir::{
 use source_kinds::{ArithOp, BinaryOp, IntKind};
 use std::alloc::Global;
 use std::test::Fail;
+use text_core::name::{NONE, OPTION, SOME};
 use text_core::{
     Boxed, Cause, Items, Kind, LimitKind, Name, Names, NoMemory, PassError, Span, Text,
 };
@@ -118,6 +122,28 @@ fn branching(
     let mut blocks = one(alloc, (Label(0), plain(alloc, Items::new(alloc), branch)))?;
     blocks.push((Label(1), plain(alloc, yes, TerminatorKind::Return)))?;
     blocks.push((Label(2), plain(alloc, no, TerminatorKind::Return)))?;
+    body(alloc, locals, blocks)
+}
+
+/// A switch over the parameter, of two variants.
+fn switching(
+    alloc: Global,
+    locals: Items<Ty>,
+    first: Items<Statement>,
+    second: Items<Statement>,
+) -> Result<Boxed<Body>, NoMemory>
+    ensures { IfOk result (λ b. b ≡ switching locals first second) }
+{
+    let place = Place {
+        local: 1,
+        path: Items::new(alloc),
+    };
+    let mut labels = one(alloc, Label(1))?;
+    labels.push(Label(2))?;
+    let switch = TerminatorKind::Switch(place, labels);
+    let mut blocks = one(alloc, (Label(0), plain(alloc, Items::new(alloc), switch)))?;
+    blocks.push((Label(1), plain(alloc, first, TerminatorKind::Return)))?;
+    blocks.push((Label(2), plain(alloc, second, TerminatorKind::Return)))?;
     body(alloc, locals, blocks)
 }
 
@@ -320,6 +346,41 @@ fn nothing_gone(alloc: Global) -> Initialised {
     }
 }
 
+/// A variant of one or no field, which is of the type's first parameter.
+fn variant(alloc: Global, name: Name, fields: Items<FieldDecl>) -> VariantDecl {
+    VariantDecl {
+        name,
+        kind: VariantKind::Numbered,
+        fields,
+    }
+}
+
+/// `enum Option<T> { None(), Some(T) }`, where the field has this name.
+fn declared(alloc: Global, name: Name) -> Result<Vec<AdtDecl>, NoMemory> {
+    let ty = Ty {
+        node: TyNode::Param(0),
+    };
+    let field = FieldDecl {
+        name,
+        ty,
+        span: END,
+    };
+    let mut variants = one(alloc, variant(alloc, NONE, Items::new(alloc)))?;
+    variants.push(variant(alloc, SOME, one(alloc, field)?))?;
+    let option = AdtDecl {
+        name: OPTION,
+        regions: 0,
+        params: 1,
+        variants,
+        is_struct: false,
+        copy: false,
+        span: END,
+    };
+    let mut decls = Vec::new(alloc);
+    decls.push(option)?;
+    Ok(decls)
+}
+
 /// The obligations of the body with the contract, from 1 on; or counted from a number on by their caller.
 fn owed(
     alloc: Global,
@@ -330,13 +391,14 @@ fn owed(
     requires { CanBeWalked body.now }
 {
     let contracts = contracts(alloc, contract(alloc)?.into_inner())?;
+    let decls = declared(alloc, SOME)?;
     let walk = Walk {
         body,
         contracts: contracts.get(),
         contract: promises,
         init: &nothing_gone(alloc),
         resolves: &Resolves::none(alloc),
-        decls: &[],
+        decls: &decls,
     };
     match counted {
         None => obligations(alloc, &walk, 1),
@@ -362,6 +424,12 @@ enum Sample {
     Panic,
     /// It adds on one side of a branch and divides on the other.
     Branch,
+    /// It answers its parameter, an `Option<i32>`, on both sides of a switch.
+    Switch,
+    /// `answer = Box::new(x)`
+    Box,
+    /// `answer = (x, x)`
+    Pair,
     /// It multiplies in a loop with one invariant.
     Loop,
     /// It answers what another function answers of x.
@@ -396,6 +464,59 @@ fn of_branch(alloc: Global) -> Result<Vec<Obligation>, PassError> {
     owed_by(alloc, body.get())
 }
 
+/// A contract that promises that the answer is this.
+fn answering(alloc: Global, wanted: Term) -> Result<Boxed<Contract>, NoMemory> {
+    let answer = Term::var(alloc, ANSWER)?;
+    let post = one(alloc, Term::equal(alloc, answer, wanted)?)?;
+    promise(alloc, Items::new(alloc), post, &[POST])
+}
+
+/// `Option<i32>`
+fn option(alloc: Global) -> Result<Ty, NoMemory> {
+    let mut types = Vec::new(alloc);
+    types.push(Ty::int(IntKind::I32))?;
+    Ty::compound(alloc, CompoundTy::Adt(AdtId(0), Vec::new(alloc), types))
+}
+
+fn of_switch(alloc: Global) -> Result<Vec<Obligation>, PassError> {
+    let mut types = one(alloc, option(alloc)?)?;
+    types.push(option(alloc)?)?;
+    let first = answer_gets(alloc, 10, Rvalue::Use(copied(alloc, 1)))?;
+    let second = answer_gets(alloc, 20, Rvalue::Use(copied(alloc, 1)))?;
+    let body = switching(alloc, types, first, second)?;
+    let promises = answering(alloc, Term::var(alloc, X)?)?;
+    owed(alloc, body.get(), promises.get(), None)
+}
+
+fn of_box(alloc: Global) -> Result<Vec<Obligation>, PassError> {
+    let statements = answer_gets(alloc, 10, Rvalue::BoxNew(copied(alloc, 1)))?;
+    let boxed = CompoundTy::Unary(TyUnary::Boxed, Ty::int(IntKind::I32));
+    let mut types = one(alloc, Ty::compound(alloc, boxed)?)?;
+    types.push(Ty::int(IntKind::I32))?;
+    let body = straight(alloc, types, statements)?;
+    owed_by(alloc, body.get())
+}
+
+fn of_pair(alloc: Global) -> Result<Vec<Obligation>, PassError> {
+    let mut operands = one(alloc, copied(alloc, 1))?;
+    operands.push(copied(alloc, 1))?;
+    let statements = answer_gets(alloc, 10, Rvalue::Make(Ctor::Tuple, operands))?;
+    let mut parts = Vec::new(alloc);
+    parts.push(Ty::int(IntKind::I32))?;
+    parts.push(Ty::int(IntKind::I32))?;
+    let pair = Ty {
+        node: TyNode::Tuple(parts),
+    };
+    let mut types = one(alloc, pair)?;
+    types.push(Ty::int(IntKind::I32))?;
+    let body = straight(alloc, types, statements)?;
+    let mut wanted = Vec::new(alloc);
+    wanted.push(Term::var(alloc, X)?)?;
+    wanted.push(Term::var(alloc, X)?)?;
+    let promises = answering(alloc, Term::made(alloc, Ctor::Tuple, wanted)?)?;
+    owed(alloc, body.get(), promises.get(), None)
+}
+
 /// One invariant, which is `true`.
 fn head(alloc: Global) -> Result<Head, NoMemory> {
     let invariants = one(alloc, Term::truth(alloc, true)?)?;
@@ -423,6 +544,9 @@ fn made_of(alloc: Global, sample: Sample) -> Result<Vec<Obligation>, PassError> 
         Sample::Cast(narrow, wide) => of_cast(alloc, narrow, wide),
         Sample::Panic => of_panic(alloc),
         Sample::Branch => of_branch(alloc),
+        Sample::Switch => of_switch(alloc),
+        Sample::Box => of_box(alloc),
+        Sample::Pair => of_pair(alloc),
         Sample::Loop => of_loop(alloc),
         Sample::Call => of_call(alloc),
     }
@@ -447,8 +571,20 @@ const NEVER: &[u8] = b"(forall<v1: i32> ((v1@ < 100) ==> false))";
 
 const SMALL: &[u8] = b"(forall<v1: i32> ((v1@ < 100) ==> (v1@ < 100)))";
 
+/// For each value that is `None` that this is the value.
+const IS_NONE: &[u8] = b"(forall<v1: Option<i32>> ((v1 == Option::None) ==> (Option::None == v1)))";
+
+/// For each value that is `Some` of a value that this is the value.
+const IS_SOME: &[u8] =
+    b"(forall<v1: Option<i32>> (forall<v2: i32> ((v1 == Option::Some(v2)) ==> (Option::Some(v2) == v1))))";
+
+/// A box is what it holds.
+const HELD: &[u8] = b"(forall<v1: i32> ((v1@ < 100) ==> (v1@ == (v1@ + 1))))";
+
+const PAIR: &[u8] = b"(forall<v1: i32> ((v1, v1) == (v1, v1)))";
+
 /// What is owed, in order.
-const SAMPLES: [(Sample, &'static [Owed]); 8] = [
+const SAMPLES: [(Sample, &'static [Owed]); 11] = [
     (
         Sample::Operation(IntKind::I32, BinaryOp::Add),
         &[
@@ -484,6 +620,12 @@ const SAMPLES: [(Sample, &'static [Owed]); 8] = [
         ],
     ),
     (
+        Sample::Switch,
+        &[(Kind::Ensures, 80, IS_NONE), (Kind::Ensures, 80, IS_SOME)],
+    ),
+    (Sample::Box, &[(Kind::Ensures, 80, HELD)]),
+    (Sample::Pair, &[(Kind::Ensures, 80, PAIR)]),
+    (
         Sample::Loop,
         &[
             (Kind::InvEntry, 30, b""),
@@ -499,9 +641,11 @@ const SAMPLES: [(Sample, &'static [Owed]); 8] = [
 ];
 
 fn text_of(alloc: Global, made: &Obligation) -> Result<Vec<u8>, NoMemory> {
-    let names = Names::new(alloc);
+    let mut names = Names::new(alloc);
+    let zero = names.intern(alloc, "0")?;
+    let adts = declared(alloc, zero)?;
     let spelling = Spelling {
-        adts: &[],
+        adts: &adts,
         names: &names,
     };
     goal_text(alloc, &spelling, &made.goal.term(alloc)?)

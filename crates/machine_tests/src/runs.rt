@@ -4,9 +4,12 @@ ghost use Rattle.mir_ir.specs.WellFormed.{operation_ty, IsSigned, AreSound};
 ghost use Rattle.mir_ir.specs.declared.place.Operand.TheVariants.{Copy};
 ghost use Rattle.mir_machine.specs.Tree.{Int};
 ghost use Rattle.mir_machine.specs.Step.{whole};
-ghost use Rattle.machine_tests.specs.Run.{assigned, block_of, body_of, of_block, of_bodies, alone, sample, tests, negates, keeps, absolute_blocks, absolute, calling_blocks, calling, panicking, program, TakesOne};
+ghost use Rattle.machine_tests.specs.Run.{assigned, block_of, body_of, of_block, of_bodies, alone, sample, tests, negates, keeps, absolute_blocks, absolute, calling_blocks, calling, panicking, program, variant, option_decl, option_ty, option_of, answers, choosing_blocks, choosing_body, choosing, TakesOne};
 
-use logic_term::{Ctor, Instance, Label, Ty, TyNode};
+use logic_term::{
+    AdtDecl, AdtId, CompoundTy, Ctor, FieldDecl, Instance, Label, Ty, TyNode, VariantDecl,
+    VariantKind,
+};
 use mir_ir::{
     Block, Bodies, Body, Callee, FnId, Lit, Operand, Place, Rvalue, Statement, StatementKind,
     Terminator, TerminatorKind,
@@ -268,6 +271,106 @@ fn program(alloc: Global) -> Result<Boxed<Bodies>, NoMemory>
     Boxed::new(alloc, of_bodies(alloc, bodies))
 }
 
+// ---- a switch
+
+/// A variant of this name.
+fn variant(name: Name, fields: Items<FieldDecl>) -> VariantDecl
+    ensures { result ≡ variant name.0 fields }
+{
+    VariantDecl {
+        name,
+        kind: VariantKind::Numbered,
+        fields,
+    }
+}
+
+/// `enum Option<T> { None(), Some(T) }`
+fn option_decl(alloc: Global) -> Result<AdtDecl, NoMemory>
+    ensures { IfOk result (λ d. d ≡ option_decl) }
+{
+    let ty = Ty {
+        node: TyNode::Param(0),
+    };
+    let field = FieldDecl {
+        name: Name(203),
+        ty,
+        span: SPAN,
+    };
+    let mut variants = one(alloc, variant(Name(201), Items::new(alloc)))?;
+    variants.push(variant(Name(202), one(alloc, field)?))?;
+    Ok(AdtDecl {
+        name: Name(200),
+        regions: 0,
+        params: 1,
+        variants,
+        is_struct: false,
+        copy: false,
+        span: SPAN,
+    })
+}
+
+/// `Option<i32>`
+fn option_ty(alloc: Global) -> Result<Ty, NoMemory>
+    ensures { IfOk result (λ ty. ty ≡ option_ty) }
+{
+    let mut types = Vec::new(alloc);
+    types.push(Ty::int(IntKind::I32))?;
+    Ty::compound(alloc, CompoundTy::Adt(AdtId(0), Vec::new(alloc), types))
+}
+
+/// The answer is 10 or 11, of which each fits.
+fn answers(alloc: Global, z: i128) -> Result<Block, NoMemory>
+    ensures { IfOk result (λ b. b ≡ answers z) }
+{
+    let value = Rvalue::Use(Operand::Const(Lit::Int(z, IntKind::I32)));
+    let statements = one(alloc, assign(alloc, 0, value))?;
+    Ok(block(alloc, statements, TerminatorKind::Return))
+}
+
+fn choosing_blocks(alloc: Global, value: Rvalue) -> Result<Items<(Label, Block)>, NoMemory>
+    ensures { IfOk result (λ bs. bs ≡ choosing_blocks value) }
+{
+    let mut labels = one(alloc, Label(1))?;
+    labels.push(Label(2))?;
+    let switch = TerminatorKind::Switch(place(alloc, 2), labels);
+    let statements = one(alloc, assign(alloc, 2, value))?;
+    let mut blocks = one(alloc, (Label(0), block(alloc, statements, switch)))?;
+    blocks.push((Label(1), answers(alloc, 10)?))?;
+    blocks.push((Label(2), answers(alloc, 11)?))?;
+    Ok(blocks)
+}
+
+/// Which variant of an option the value is: 10 for `None`, and else 11.
+fn choosing_body(alloc: Global, value: Rvalue) -> Result<Body, NoMemory>
+    ensures { IfOk result (λ b. b ≡ choosing_body value) }
+{
+    let blocks = choosing_blocks(alloc, value)?;
+    let mut locals = two(alloc, Ty::int(IntKind::I32), Ty::int(IntKind::I32))?;
+    locals.push(option_ty(alloc)?)?;
+    let names = [Name(100), Name(101), Name(102)];
+    body(alloc, 0, locals, &names, blocks)
+}
+
+fn choosing(alloc: Global, value: Rvalue) -> Result<Boxed<Bodies>, NoMemory>
+    ensures { IfOk result (λ p. p ≡ choosing value) }
+{
+    let bodies = one(alloc, choosing_body(alloc, value)?)?;
+    let bodies = Bodies {
+        bodies,
+        decls: one(alloc, option_decl(alloc)?)?,
+        impls: Items::new(alloc),
+        closures: Items::new(alloc),
+    };
+    Boxed::new(alloc, bodies)
+}
+
+/// A variant of an option.
+fn option_of(variant: u32, operands: Items<Operand>) -> Rvalue
+    ensures { result ≡ option_of variant operands }
+{
+    Rvalue::Make(Ctor::Variant(AdtId(0), variant), operands)
+}
+
 // ---- runs
 
 /// What a run has come to.
@@ -347,6 +450,19 @@ fn widening(alloc: Global, narrow: IntKind, wide: IntKind, x: i128) -> Result<Ca
     let value = Rvalue::Widen(copied(alloc, 1), wide);
     let bodies = sample(alloc, Ty::int(wide), Ty::int(narrow), value)?;
     run_of(alloc, bodies.get(), 0, integer(x), 7)
+}
+
+/// Which variant `None` is.
+fn none_chosen(alloc: Global) -> Result<Came, Fail> {
+    let bodies = choosing(alloc, option_of(0, Items::new(alloc)))?;
+    run_of(alloc, bodies.get(), 0, integer(5), 99)
+}
+
+/// Which variant `Some` of the parameter is.
+fn some_chosen(alloc: Global) -> Result<Came, Fail> {
+    let operands = one(alloc, copied(alloc, 1))?;
+    let bodies = choosing(alloc, option_of(1, operands))?;
+    run_of(alloc, bodies.get(), 0, integer(5), 99)
 }
 
 /// The number of the body that calls the absolute value, or of the absolute value itself.
@@ -536,5 +652,12 @@ fn unit(alloc: Global) -> Result<Came, Fail> {
 #[test]
 fn makes_the_unit(rt: HostRuntime) -> Result<(), Fail> {
     assert!(rt; unit(rt.alloc())? == Came::Unit);
+    Ok(())
+}
+
+#[test]
+fn switches_go_to_the_variant(rt: HostRuntime) -> Result<(), Fail> {
+    assert!(rt; none_chosen(rt.alloc())? == Came::Integer(10));
+    assert!(rt; some_chosen(rt.alloc())? == Came::Integer(11));
     Ok(())
 }

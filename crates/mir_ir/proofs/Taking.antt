@@ -6,11 +6,11 @@ use Rattle.logic_term.specs.declared.kinds.Label.{Label}
 use Rattle.mir_ir.specs.declared.place.Operand.{Operand}
 use Rattle.mir_ir.specs.declared.place.Operand.TheVariants.{Copy, Move, Const}
 use Rattle.mir_ir.specs.declared.statement.Rvalue.{Rvalue}
-use Rattle.mir_ir.specs.declared.statement.Rvalue.TheVariants.{Use, Binary, Neg, Not, Widen, Make}
+use Rattle.mir_ir.specs.declared.statement.Rvalue.TheVariants.{Use, Binary, Neg, Not, Widen, Make, BoxNew}
 use Rattle.mir_ir.specs.declared.statement.StatementKind.{StatementKind}
 use Rattle.mir_ir.specs.declared.statement.StatementKind.TheVariants.{Assign, Dead}
 use Rattle.mir_ir.specs.declared.terminator.TerminatorKind.{TerminatorKind}
-use Rattle.mir_ir.specs.declared.terminator.TerminatorKind.TheVariants.{Goto, If, Call, Return, Panic}
+use Rattle.mir_ir.specs.declared.terminator.TerminatorKind.TheVariants.{Goto, If, Switch, Call, Return, Panic}
 use Rattle.mir_ir.specs.Layout.{among, targets}
 use Rattle.mir_ir.specs.Acts.{Act, writes, acts_of_operand, acts_of_operands, acts_of_rvalue, acts_of, acts_of_end, acts_along}
 use Rattle.mir_ir.specs.declared.statement.Statement.{Statement}
@@ -48,6 +48,7 @@ CanEvaluate set (Neg o) = CanTake set o
 CanEvaluate set (Not o) = CanTake set o
 CanEvaluate set (Widen o k) = CanTake set o
 CanEvaluate set (Make c os) = CanTakeAll set os
+CanEvaluate set (BoxNew o) = CanTake set o
 
 abbrev pub evaluated : Rvalue → Locals → Locals
 evaluated (Use o) set = taken o set
@@ -56,6 +57,7 @@ evaluated (Neg o) set = taken o set
 evaluated (Not o) set = taken o set
 evaluated (Widen o k) set = taken o set
 evaluated (Make c os) set = all_taken os set
+evaluated (BoxNew o) set = taken o set
 
 abbrev pub CanRun : Locals → StatementKind → Type 0
 CanRun set (Assign p r) = CanEvaluate set r
@@ -68,6 +70,7 @@ run (Dead x) set = without x set
 abbrev pub CanEnd : Locals → TerminatorKind → Type 0
 CanEnd set (Goto l) = Unit {0}
 CanEnd set (If o on_true on_false) = CanTake set o
+CanEnd set (Switch p ls) = set p.local ≡ true
 CanEnd set (Call p callee types os l) = CanTakeAll set os
 CanEnd set Return = set 0 ≡ true
 CanEnd set (Panic cause) = Unit {0}
@@ -77,6 +80,7 @@ CanEnd set (Panic cause) = Unit {0}
 abbrev pub Carries : (Label → Locals) → Locals → TerminatorKind → Type 0
 Carries starts set (Goto l) = Within (starts l) set
 Carries starts set (If o on_true on_false) = Within (starts on_true) (taken o set) × Within (starts on_false) (taken o set)
+Carries starts set (Switch p ls) = (m : Label) → among m ls ≡ true → Within (starts m) set
 Carries starts set (Call p callee types os l) = Within (starts l) (with p.local (all_taken os set))
 Carries starts set Return = Unit {0}
 Carries starts set (Panic cause) = Unit {0}
@@ -142,6 +146,7 @@ rvalue_done (Neg o) there = operand_done o there
 rvalue_done (Not o) there = operand_done o there
 rvalue_done (Widen o k) there = operand_done o there
 rvalue_done (Make c os) there = operands_done os there
+rvalue_done (BoxNew o) there = operand_done o there
 
 from_rvalue : (r : Rvalue) (there : Locals) → CanDoAll there (acts_of_rvalue r) → CanEvaluate there r
 from_rvalue (Use o) there h = from_operand o there h
@@ -153,6 +158,7 @@ from_rvalue (Neg o) there h = from_operand o there h
 from_rvalue (Not o) there h = from_operand o there h
 from_rvalue (Widen o k) there h = from_operand o there h
 from_rvalue (Make c os) there h = from_operands os there h
+from_rvalue (BoxNew o) there h = from_operand o there h
 
 to_rvalue : (r : Rvalue) (there : Locals) → CanEvaluate there r → CanDoAll there (acts_of_rvalue r)
 to_rvalue (Use o) there h = to_operand o there h
@@ -163,6 +169,7 @@ to_rvalue (Neg o) there h = to_operand o there h
 to_rvalue (Not o) there h = to_operand o there h
 to_rvalue (Widen o k) there h = to_operand o there h
 to_rvalue (Make c os) there h = to_operands os there h
+to_rvalue (BoxNew o) there h = to_operand o there h
 
 -- ---- statements
 
@@ -183,6 +190,7 @@ to_statement (Dead x) there h = (tt, tt)
 pub from_end : (kind : TerminatorKind) (there : Locals) → CanDoAll there (acts_of_end kind) → CanEnd there kind
 from_end (Goto l) there h = tt
 from_end (If o on_true on_false) there h = from_operand o there h
+from_end (Switch p ls) there h = h.0
 from_end (Call p callee types os l) there h = from_operands os there h
 from_end Return there h = h.0
 from_end (Panic cause) there h = tt
@@ -190,6 +198,7 @@ from_end (Panic cause) there h = tt
 pub to_end : (kind : TerminatorKind) (there : Locals) → CanEnd there kind → CanDoAll there (acts_of_end kind)
 to_end (Goto l) there h = tt
 to_end (If o on_true on_false) there h = to_operand o there h
+to_end (Switch p ls) there h = (h, tt)
 to_end (Call p callee types os l) there h = to_operands os there h
 to_end Return there h = (h, tt)
 to_end (Panic cause) there h = tt
@@ -230,6 +239,7 @@ from_edges (If o on_true on_false) starts there h = (
     last true b e = refl
     last false true e = refl
     last false false e = e
+from_edges (Switch p ls) starts there h = h
 from_edges (Call p callee types os l) starts there h = within_same (starts l) _ (with p.local (all_taken os there)) (call_done os p.local there (writes p) refl) (h l (itself l []))
 from_edges Return starts there h = tt
 from_edges (Panic cause) starts there h = tt
@@ -249,6 +259,7 @@ to_edges (If o on_true on_false) starts there h m e = either (on_true.0 == m.0) 
     either true t same other e = at on_true (same_label on_true m same) h.0
     either false true same other e = at on_false (same_label on_false m other) h.1
     either false false same other e = absurd (cc)
+to_edges (Switch p ls) starts there h m e = h m e
 to_edges (Call p callee types os l) starts there h m e = only (l.0 == m.0) refl e
   where
     only : (t : Bool) → (l.0 == m.0) ≡ t → (t || false) ≡ true → Within (starts m) (carried (Call p callee types os l) there)

@@ -6,11 +6,11 @@ use Rattle.mir_ir.specs.declared.place.Place.{Place}
 use Rattle.mir_ir.specs.declared.place.Operand.{Operand}
 use Rattle.mir_ir.specs.declared.place.Operand.TheVariants.{Copy, Move, Const}
 use Rattle.mir_ir.specs.declared.statement.Rvalue.{Rvalue}
-use Rattle.mir_ir.specs.declared.statement.Rvalue.TheVariants.{Use, Binary, Neg, Not, Widen, Make}
+use Rattle.mir_ir.specs.declared.statement.Rvalue.TheVariants.{Use, Binary, Neg, Not, Widen, Make, BoxNew}
 use Rattle.mir_ir.specs.declared.statement.StatementKind.{StatementKind}
 use Rattle.mir_ir.specs.declared.statement.StatementKind.TheVariants.{Assign, Dead}
 use Rattle.mir_ir.specs.declared.terminator.TerminatorKind.{TerminatorKind}
-use Rattle.mir_ir.specs.declared.terminator.TerminatorKind.TheVariants.{Goto, If, Call, Return, Panic}
+use Rattle.mir_ir.specs.declared.terminator.TerminatorKind.TheVariants.{Goto, If, Switch, Call, Return, Panic}
 
 pub data Act : Type 0 where
   -- the place's value is copied
@@ -39,6 +39,7 @@ acts_of_rvalue (Neg o) = acts_of_operand o
 acts_of_rvalue (Not o) = acts_of_operand o
 acts_of_rvalue (Widen o k) = acts_of_operand o
 acts_of_rvalue (Make c os) = acts_of_operands os
+acts_of_rvalue (BoxNew o) = acts_of_operand o
 
 abbrev pub acts_of : StatementKind → List Act
 acts_of (Assign p r) = acts_of_rvalue r ++ writes p ∷ []
@@ -51,6 +52,7 @@ answer_place = record { local = 0; path = [] }
 abbrev pub acts_of_end : TerminatorKind → List Act
 acts_of_end (Goto l) = []
 acts_of_end (If o on_true on_false) = acts_of_operand o
+acts_of_end (Switch p ls) = reads p ∷ []
 acts_of_end (Call p callee types os l) = acts_of_operands os
 acts_of_end Return = takes answer_place ∷ []
 acts_of_end (Panic cause) = []

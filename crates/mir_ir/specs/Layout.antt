@@ -4,7 +4,7 @@ use Rattle.std.specs.Prelude.{◌≡◌, ℕ, suc, ◌<◌, ◌==◌, cond, Bool
 use Rattle.std.specs.List.{list_any}
 use Rattle.logic_term.specs.declared.kinds.Label.{Label}
 use Rattle.mir_ir.specs.declared.terminator.TerminatorKind.{TerminatorKind}
-use Rattle.mir_ir.specs.declared.terminator.TerminatorKind.TheVariants.{Goto, If, Call, Return, Panic}
+use Rattle.mir_ir.specs.declared.terminator.TerminatorKind.TheVariants.{Goto, If, Switch, Call, Return, Panic}
 use Rattle.mir_ir.specs.declared.body.Block.{Block}
 use Rattle.mir_ir.specs.declared.body.Head.{Head}
 use Rattle.mir_ir.specs.declared.body.Body.{Body}
@@ -18,6 +18,7 @@ among l ls = list_any (λ m. m.0 == l.0) ls
 abbrev pub targets : TerminatorKind → List Label
 targets (Goto l) = l ∷ []
 targets (If o l m) = l ∷ m ∷ []
+targets (Switch p ls) = ls
 targets (Call p callee types args l) = l ∷ []
 targets Return = []
 targets (Panic cause) = []

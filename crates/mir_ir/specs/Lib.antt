@@ -1,5 +1,6 @@
 pub mod Body
 pub mod Callees
+pub mod Declares
 pub mod Acts
 pub mod WellFormed
 pub mod Layout

@@ -1,33 +1,38 @@
 -- Which bodies are typed, and in which each local that is read is initialised. The rules are those of the Rust Reference:
 -- "Variables" and "Move and copy types" (what is initialised), "Operator expressions" (which operands an operator takes), "Tuple
--- expressions" (`()`), "Type cast expressions" (of these the lossless ones), "if expressions" (the condition is a bool) and "Call expressions" (the callee's parameters and answer).
+-- expressions", "Struct expressions", "Type cast expressions" (of these the lossless ones), "if expressions" (the condition is a bool), "Match expressions" (all variants are covered) and "Call expressions" (the callee's parameters and answer).
 use Rattle.std.specs.Prelude.{◌≡◌, ℕ, ◌+◌, ◌≤◌, ◌==◌, nat_lt, Bool, true, false, ◌&&◌, cond, List, [], ◌∷◌, ◌++◌, length, take, drop, Some, slice_get}
+use Rattle.logic_term.specs.declared.declaration.AdtDecl.{AdtDecl}
+use Rattle.logic_term.specs.declared.kinds.AdtId.{AdtId}
 use Rattle.logic_term.specs.declared.kinds.Label.{Label}
+use Rattle.logic_term.specs.declared.kinds.Region.{Region}
 use Rattle.source_kinds.specs.declared.kinds.IntKind.{IntKind}
 use Rattle.source_kinds.specs.declared.kinds.IntKind.TheVariants.{I8, I16, I32, I64, Isize}
 use Rattle.source_kinds.specs.declared.kinds.BinaryOp.{BinaryOp}
 use Rattle.source_kinds.specs.declared.kinds.BinaryOp.TheVariants.{Add, Sub, Mul, Div, Rem, Eq, Ne, Lt, Le, Gt, Ge}
-use Rattle.logic_term.specs.declared.kinds.Ctor.TheVariants.{Tuple}
 use Rattle.source_kinds.specs.Range.{fits, widens}
-use Rattle.logic_term.specs.Ty.{Ty, int, bool, unit_ty}
+use Rattle.logic_term.specs.Sorted.{MadeSort}
+use Rattle.logic_term.specs.Ty.{Ty, Tys, int, bool, adt, boxed}
+use Rattle.logic_term.specs.TyView.{tys_of}
 use Rattle.mir_ir.specs.declared.place.Place.{Place}
 use Rattle.mir_ir.specs.declared.place.Lit.{Lit}
 use Rattle.mir_ir.specs.declared.place.Lit.TheVariants as lit
 use Rattle.mir_ir.specs.declared.place.Operand.{Operand}
 use Rattle.mir_ir.specs.declared.place.Operand.TheVariants.{Copy, Move, Const}
 use Rattle.mir_ir.specs.declared.statement.Rvalue.{Rvalue}
-use Rattle.mir_ir.specs.declared.statement.Rvalue.TheVariants.{Use, Binary, Neg, Not, Widen, Make}
+use Rattle.mir_ir.specs.declared.statement.Rvalue.TheVariants.{Use, Binary, Neg, Not, Widen, Make, BoxNew}
 use Rattle.mir_ir.specs.declared.statement.StatementKind.{StatementKind}
 use Rattle.mir_ir.specs.declared.statement.StatementKind.TheVariants.{Assign, Dead}
 use Rattle.mir_ir.specs.declared.statement.Statement.{Statement}
 use Rattle.mir_ir.specs.declared.terminator.Callee.{Callee}
 use Rattle.mir_ir.specs.declared.terminator.TerminatorKind.{TerminatorKind}
-use Rattle.mir_ir.specs.declared.terminator.TerminatorKind.TheVariants.{Goto, If, Call, Return, Panic}
+use Rattle.mir_ir.specs.declared.terminator.TerminatorKind.TheVariants.{Goto, If, Switch, Call, Return, Panic}
 use Rattle.mir_ir.specs.declared.body.Block.{Block}
 use Rattle.mir_ir.specs.declared.body.Body.{Body}
 use Rattle.mir_ir.specs.declared.body.Bodies.{Bodies}
 use Rattle.mir_ir.specs.Body.{block_in}
 use Rattle.mir_ir.specs.Callees.{callee_body}
+use Rattle.mir_ir.specs.Declares.{theory_in}
 use Rattle.mir_ir.specs.Layout.{among, targets}
 use Rattle.mir_ir.specs.Acts.{Act, reads, takes, writes, dies, acts_of, acts_of_end, acts_along}
 
@@ -86,19 +91,20 @@ IsSigned I64 = Unit {0}
 IsSigned Isize = Unit {0}
 IsSigned _ = ⊥
 
-abbrev pub RvalueHas : Body → Rvalue → Ty → Type 0
-RvalueHas b (Use o) t = OperandHas b o t
-RvalueHas b (Binary op x y) t = (s : Ty) × OperandHas b x s × OperandHas b y s × OperationHas op s t
-RvalueHas b (Neg o) t = (k : IntKind) × IsSigned k × OperandHas b o (int k) × (t ≡ int k)
-RvalueHas b (Not o) t = OperandHas b o bool × (t ≡ bool)
+abbrev pub RvalueHas : Bodies → Body → Rvalue → Ty → Type 0
+RvalueHas bodies b (Use o) t = OperandHas b o t
+RvalueHas bodies b (Binary op x y) t = (s : Ty) × OperandHas b x s × OperandHas b y s × OperationHas op s t
+RvalueHas bodies b (Neg o) t = (k : IntKind) × IsSigned k × OperandHas b o (int k) × (t ≡ int k)
+RvalueHas bodies b (Not o) t = OperandHas b o bool × (t ≡ bool)
 -- of any integer type whose values are all of the type
-RvalueHas b (Widen o k) t = (j : IntKind) × (widens j k ≡ true) × OperandHas b o (int j) × (t ≡ int k)
--- so far `()` alone is made
-RvalueHas b (Make c os) t = (c ≡ Tuple) × (os ≡ []) × (t ≡ unit_ty)
+RvalueHas bodies b (Widen o k) t = (j : IntKind) × (widens j k ≡ true) × OperandHas b o (int j) × (t ≡ int k)
+-- a tuple of the operands' types, or a variant of a declared type whose fields have them
+RvalueHas bodies b (Make c os) t = (ts : List Ty) × OperandsHave b os ts × MadeSort (theory_in bodies) c (tys_of ts) t
+RvalueHas bodies b (BoxNew o) t = (u : Ty) × OperandHas b o u × (t ≡ boxed u)
 
-abbrev pub StatementIsTyped : Body → StatementKind → Type 0
-StatementIsTyped b (Assign p r) = (t : Ty) × PlaceHas b p t × RvalueHas b r t
-StatementIsTyped b (Dead x) = (t : Ty) × (slice_get b.locals x ≡ Some t)
+abbrev pub StatementIsTyped : Bodies → Body → StatementKind → Type 0
+StatementIsTyped bodies b (Assign p r) = (t : Ty) × PlaceHas b p t × RvalueHas bodies b r t
+StatementIsTyped bodies b (Dead x) = (t : Ty) × (slice_get b.locals x ≡ Some t)
 
 abbrev pub HasBlock : Body → Label → Type 0
 HasBlock b l = (k : Block) × (block_in b.blocks l ≡ Some k)
@@ -110,10 +116,22 @@ CallIsTyped bodies b p callee types os =
     (c : Body) × (t : Ty) × (callee_body bodies callee ≡ Some c) × OperandsHave b os (take c.params (drop 1 c.locals)) × (slice_get c.locals 0 ≡ Some t) × PlaceHas b p t
     × (length types ≡ length c.types)
 
+-- the place has a declared type, of whose variants each has its label, and each label a block
+pub record SwitchIsTyped (bodies : Bodies) (b : Body) (p : Place) (ls : List Label) : Type 0 where
+  pub number : AdtId
+  pub regions : List Region
+  pub types : Tys
+  pub place : PlaceHas b p (adt number regions types)
+  pub declaration : AdtDecl
+  pub is_declared : slice_get bodies.decls number.0 ≡ Some declaration
+  pub count : length ls ≡ length declaration.variants
+  pub blocks : (k : ℕ) (l : Label) → slice_get ls k ≡ Some l → HasBlock b l
+
 -- each label that is named has a block
 abbrev pub EndIsTyped : Bodies → Body → TerminatorKind → Type 0
 EndIsTyped bodies b (Goto l) = HasBlock b l
 EndIsTyped bodies b (If o on_true on_false) = OperandHas b o bool × HasBlock b on_true × HasBlock b on_false
+EndIsTyped bodies b (Switch p ls) = SwitchIsTyped bodies b p ls
 EndIsTyped bodies b (Call p callee types os l) = CallIsTyped bodies b p callee types os × HasBlock b l
 EndIsTyped bodies b Return = Unit {0}
 EndIsTyped bodies b (Panic cause) = Unit {0}
@@ -126,7 +144,7 @@ pub record IsTyped (bodies : Bodies) (b : Body) : Type 0 where
   -- the answer and the parameters are locals
   pub answers : b.params + 1 ≤ length b.locals
   pub begins : HasBlock b b.entry
-  pub statements : (l : Label) (k : Block) (i : ℕ) (st : Statement) → block_in b.blocks l ≡ Some k → slice_get k.statements i ≡ Some st → StatementIsTyped b st.kind
+  pub statements : (l : Label) (k : Block) (i : ℕ) (st : Statement) → block_in b.blocks l ≡ Some k → slice_get k.statements i ≡ Some st → StatementIsTyped bodies b st.kind
   pub ends : (l : Label) (k : Block) → block_in b.blocks l ≡ Some k → EndIsTyped bodies b k.end.kind
 
 -- ---- initialised locals

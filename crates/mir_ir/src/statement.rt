@@ -16,6 +16,8 @@ pub enum Rvalue {
     Widen(Operand, IntKind),
     /// A value made of the operands' values, in order.
     Make(Ctor, Items<Operand>),
+    /// A box of the operand's value.
+    BoxNew(Operand),
 }
 
 pub enum StatementKind {

@@ -19,6 +19,8 @@ pub enum TerminatorKind {
     Goto(Label),
     /// To the first label where the operand is true, else to the second.
     If(Operand, Label, Label),
+    /// To the label of the variant that the place has, of these one for each variant of its type, in declared order.
+    Switch(Place, Items<Label>),
     /// A call with a type for each type parameter of the callee, and with these arguments. Its answer goes to the place, and the
     /// body goes on at the label.
     Call(Place, Callee, Items<Ty>, Items<Operand>, Label),
@@ -33,6 +35,7 @@ impl Drop for TerminatorKind {
         match self {
             TerminatorKind::Goto(_)
             | TerminatorKind::If(_, _, _)
+            | TerminatorKind::Switch(_, _)
             | TerminatorKind::Call(_, _, _, _, _)
             | TerminatorKind::Return
             | TerminatorKind::Panic(_) => {}

@@ -6,7 +6,7 @@ use Rattle.logic_term.specs.declared.kinds.Label.{Label}
 use Rattle.mir_ir.specs.declared.place.Operand.{Operand}
 use Rattle.mir_ir.specs.declared.place.Place.{Place}
 use Rattle.mir_ir.specs.declared.terminator.Callee.{Callee}
-use Rattle.mir_ir.specs.declared.terminator.TerminatorKind.TheVariants.{Goto, If, Call}
+use Rattle.mir_ir.specs.declared.terminator.TerminatorKind.TheVariants.{Goto, If, Switch, Call}
 use Rattle.mir_ir.specs.declared.body.Block.{Block}
 use Rattle.mir_ir.specs.declared.body.Body.{Body}
 use Rattle.mir_ir.specs.declared.body.Bodies.{Bodies}
@@ -17,7 +17,7 @@ use Rattle.mir_machine.specs.Try.{Try, Yields, ◌>>=◌, need}
 use Rattle.mir_machine.specs.Tree.{Tree}
 use Rattle.mir_machine.specs.Frame.{Frame, State}
 use Rattle.mir_machine.specs.Code.{code_of}
-use Rattle.mir_machine.specs.Step.{operand, operands, truth_of, callee_frame, at_label, Outcome, Running, end_step, row, try_step}
+use Rattle.mir_machine.specs.Step.{operand, operands, truth_of, switched, callee_frame, at_label, Outcome, Running, end_step, row, try_step}
 use Rattle.mir_machine.specs.Taken.{branched, called_from}
 use Rattle.mir_machine.proofs.Coming.{stops_then}
 use Rattle.mir_machine.proofs.Tried.{then_then, then_same}
@@ -50,6 +50,12 @@ choice_stops h bodies s at o on_true on_false e = subst (Stops h) (sym (choice-r
 
 pub choice_goes : (bodies : Bodies) (s s' : S) (at : Span) (o : Operand) (on_true on_false : Label) → branched s o on_true on_false ≡ Yields s' → end_step (code_of bodies) s at (If o on_true on_false) ≡ Yields (Running s')
 choice_goes bodies s s' at o on_true on_false e = choice-row bodies s at o on_true on_false ∙ ap (λ (m : Try S). m >>= go_on) e
+
+pub switch_stops : (h : Halt) (bodies : Bodies) (s : S) (at : Span) (p : Place) (ls : List Label) → Stops h (switched s p ls) → Stops h (end_step (code_of bodies) s at (Switch p ls))
+switch_stops h bodies s at p ls e = stops_then h (switched s p ls) (λ l. at_label l s >>= go_on) e
+
+pub switch_goes : (bodies : Bodies) (s s' : S) (at : Span) (p : Place) (ls : List Label) (l : Label) → switched s p ls ≡ Yields l → at_label l s ≡ Yields s' → end_step (code_of bodies) s at (Switch p ls) ≡ Yields (Running s')
+switch_goes bodies s s' at p ls l is_l e = ap (λ (m : Try Label). m >>= λ l. at_label l s >>= go_on) is_l ∙ ap (λ (m : Try S). m >>= go_on) e
 
 call-row : (bodies : Bodies) (s : S) (at : Span) (p : Place) (callee : Callee) (types : List Ty) (os : List Operand) (l : Label) → end_step (code_of bodies) s at (Call p callee types os l) ≡ (called_from bodies s callee os >>= go_on)
 call-row bodies s at p callee types os l =

@@ -7,7 +7,7 @@ use Rattle.logic_term.specs.Ty.{Ty, no_tys}
 use Rattle.mir_ir.specs.declared.place.Place.{Place}
 use Rattle.mir_ir.specs.declared.place.Operand.{Operand}
 use Rattle.mir_ir.specs.declared.terminator.Callee.{Callee}
-use Rattle.mir_ir.specs.declared.terminator.TerminatorKind.TheVariants.{Goto, If, Call, Return}
+use Rattle.mir_ir.specs.declared.terminator.TerminatorKind.TheVariants.{Goto, If, Switch, Call, Return}
 use Rattle.mir_ir.specs.declared.body.Block.{Block}
 use Rattle.mir_ir.specs.declared.body.Body.{Body}
 use Rattle.mir_ir.specs.declared.body.Bodies.{Bodies}
@@ -18,7 +18,7 @@ use Rattle.mir_machine.specs.Tree.{Tree, Truth}
 use Rattle.mir_machine.specs.Frame.{Frame, State}
 use Rattle.mir_machine.specs.Memory.{is_there, tree_at, write}
 use Rattle.mir_machine.specs.Code.{Code}
-use Rattle.mir_machine.specs.Step.{Outcome, Running, Taken, operand, operands, truth_of, at_label, callee_frame, entered, answered, come_back, end_step, row, try_step}
+use Rattle.mir_machine.specs.Step.{Outcome, Running, Taken, operand, operands, truth_of, switched, at_label, callee_frame, entered, answered, come_back, end_step, row, try_step}
 use Rattle.mir_machine.specs.Invariant.{Stop, stops, local_at}
 use Rattle.mir_machine.proofs.Writes.{SameTrees, at_start, label_yields, first_local}
 
@@ -52,6 +52,12 @@ module _ {K : Type 0} (code : Code K) where
   if-row s u at o c l r g gs taken e =
       let (v, is_v, stay, same) = label_yields u (cond c l r) g gs e in
       (v, ap (λ (m : Try (Taken K)). m >>= λ r'. truth_of r'.1 >>= λ b. at_label (cond b l r) r'.0 >>= go_on) taken ∙ ap (λ (m : Try (State K)). m >>= go_on) is_v, stay, same)
+
+  pub switch-row : (s : State K) (at : Span) (p : Place) (ls : List Label) (l : Label) (g : Stop) (gs : List Stop) → switched s p ls ≡ Yields l → stops s ≡ g ∷ gs
+      → (v : State K) × (end_step code s at (Switch p ls) ≡ Yields (Running v)) × (stops v ≡ at_start l g ∷ gs) × SameTrees s v
+  switch-row s at p ls l g gs is_l e =
+      let (v, is_v, stay, same) = label_yields s l g gs e in
+      (v, ap (λ (m : Try Label). m >>= λ l. at_label l s >>= go_on) is_l ∙ ap (λ (m : Try (State K)). m >>= go_on) is_v, stay, same)
 
   pub call-row : (s u : State K) (at : Span) (p : Place) (callee : Callee) (types : List Ty) (os : List Operand) (l : Label) (args : List (Tree K)) (m : ℕ) (c : Body) → operands s os ≡ Yields (u, args)
       → callee_of code.program callee ≡ Some m → slice_get code.program.bodies m ≡ Some c → end_step code s at (Call p callee types os l) ≡ Yields (Running (entered c m no_tys args ∷ u))

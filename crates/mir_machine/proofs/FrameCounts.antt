@@ -12,12 +12,12 @@ use Rattle.mir_ir.specs.declared.place.Proj.TheVariants.{Field, Variant, Deref}
 use Rattle.mir_ir.specs.declared.place.Operand.{Operand}
 use Rattle.mir_ir.specs.declared.place.Operand.TheVariants.{Copy, Move, Const}
 use Rattle.mir_ir.specs.declared.statement.Rvalue.{Rvalue}
-use Rattle.mir_ir.specs.declared.statement.Rvalue.TheVariants.{Use, Binary, Neg, Not, Widen, Make}
+use Rattle.mir_ir.specs.declared.statement.Rvalue.TheVariants.{Use, Binary, Neg, Not, Widen, Make, BoxNew}
 use Rattle.mir_ir.specs.declared.statement.StatementKind.{StatementKind}
 use Rattle.mir_ir.specs.declared.statement.StatementKind.TheVariants.{Assign, Dead}
 use Rattle.mir_ir.specs.declared.terminator.Callee.{Callee}
 use Rattle.mir_ir.specs.declared.terminator.TerminatorKind.{TerminatorKind}
-use Rattle.mir_ir.specs.declared.terminator.TerminatorKind.TheVariants.{Goto, If, Call, Return, Panic}
+use Rattle.mir_ir.specs.declared.terminator.TerminatorKind.TheVariants.{Goto, If, Switch, Call, Return, Panic}
 use Rattle.mir_ir.specs.declared.body.Body.{Body}
 use Rattle.mir_ir.specs.declared.body.Bodies.{Bodies}
 use Rattle.mir_ir.specs.Body.{block_in, place_ty, kind_in}
@@ -28,7 +28,7 @@ use Rattle.mir_machine.specs.Tree.{Tree, Trees, Int, Truth, Made, Boxed, Shared,
 use Rattle.mir_machine.specs.Frame.{Frame, State}
 use Rattle.mir_machine.specs.Code.{Code}
 use Rattle.mir_machine.specs.Memory.{child, with_child, tree_in, put_in, frame_at, set_frame, tree_at, put_at, onward, walk, running, spot_of, is_there, read, write}
-use Rattle.mir_machine.specs.Step.{operand, operands, rvalue, binary, negated, inverted, truth_of, past, at_label, whole, statement_step, entered, callee_frame, answered, come_back, end_step, Outcome, Running}
+use Rattle.mir_machine.specs.Step.{operand, operands, rvalue, binary, negated, inverted, truth_of, switched, past, at_label, whole, statement_step, entered, callee_frame, answered, come_back, end_step, Outcome, Running}
 use Rattle.mir_machine.specs.Depth.{IsCall, frames_behind, frame_count}
 use Rattle.mir_machine.proofs.Tried.{Quiet, quiet_then, quiet_need, quiet_weaker}
 use Rattle.mir_machine.proofs.Undoing.{set_frame-length}
@@ -200,6 +200,7 @@ rvalue_keeps s kind span (Binary op a b) =
 rvalue_keeps s kind span (Neg o) = valued s o (negated kind span)
 rvalue_keeps s kind span (Not o) = valued s o inverted
 rvalue_keeps s kind span (Widen o k) = having_of (TakenAsMany s) (operand s o) (operand_keeps s o)
+rvalue_keeps s kind span (BoxNew o) = valued s o (λ t. Yields (Boxed t))
 rvalue_keeps s kind span (Make c os) =
     having_then (TakenAsMany s) (TakenAsMany s) (operands s os) (λ r. Yields (r.0, Made c (trees_of r.1))) (having_of (TakenAsMany s) (operands s os) (operands_keep s os)) (λ r e. e)
 
@@ -249,6 +250,7 @@ answered_keeps t s (Call p callee types os l) =
     having_then (AsMany s) (AsMany s) (write s p t) (at_label l) (having_of (AsMany s) (write s p t) (write_keeps s p t)) (λ s' e. having_weaker (AsMany s') (AsMany s) (at_label l s') (at_label_keeps l s') (λ q e'. e' ∙ e))
 answered_keeps t s (Goto l) = tt
 answered_keeps t s (If o on_true on_false) = tt
+answered_keeps t s (Switch p ls) = tt
 answered_keeps t s Return = tt
 answered_keeps t s (Panic cause) = tt
 
@@ -272,6 +274,9 @@ no_call_count code f fs at (If o on_true on_false) other =
     having_then (TakenAsMany s) P (operand s o) (λ r. truth_of r.1 >>= λ b. at_label (cond b on_true on_false) r.0 >>= λ s'. Yields (Running s')) (having_of (TakenAsMany s) (operand s o) (operand_keeps s o))
     (λ r e. any_then P (truth_of r.1) (λ b. at_label (cond b on_true on_false) r.0 >>= λ s'. Yields (Running s'))
     (λ b _. goes_on f fs (at_label (cond b on_true on_false) r.0) (having_weaker (AsMany r.0) (AsMany s) (at_label (cond b on_true on_false) r.0) (at_label_keeps (cond b on_true on_false) r.0) (λ q e'. e' ∙ e))))
+no_call_count code f fs at (Switch p ls) other =
+    let s : S = f ∷ fs in
+    any_then (AtMost (length fs)) (switched s p ls) (λ l. at_label l s >>= λ s'. Yields (Running s')) (λ l _. goes_on f fs (at_label l s) (at_label_keeps l s))
 no_call_count code f fs at (Call p callee types os l) other = absurd (other tt)
 no_call_count code f fs at Return other =
     any_then (AtMost (length fs)) (need (slice_get f.locals 0)) (λ t. is_there t >>= λ t'. come_back code.program t' fs)
@@ -287,6 +292,7 @@ callee_quiet bodies callee args =
 pub call_count : (code : Code (Unit {0})) (f : Frame (Unit {0})) (fs : S) (at : Span) (end : TerminatorKind) → IsCall end → Quiet (λ o. frame_count o ≡ suc (length fs)) (end_step code (f ∷ fs) at end)
 call_count code f fs at (Goto l) is = absurd is
 call_count code f fs at (If o on_true on_false) is = absurd is
+call_count code f fs at (Switch p ls) is = absurd is
 call_count code f fs at (Call p callee types os l) is =
     let s : S = f ∷ fs in
     quiet_then (TakenAsMany s) (λ o. frame_count o ≡ suc (length fs)) (operands s os) (λ r. callee_frame code.program callee r.1 >>= λ g. Yields (Running (g ∷ r.0))) (operands_keep s os)
@@ -300,6 +306,7 @@ more_allowed code f fs at end other = having_weaker (AtMost (length fs)) (AtMost
 pub end_count : (code : Code (Unit {0})) (f : Frame (Unit {0})) (fs : S) (at : Span) (end : TerminatorKind) → Having (AtMost (suc (length fs))) (end_step code (f ∷ fs) at end)
 end_count code f fs at (Goto l) = more_allowed code f fs at (Goto l) (λ h. h)
 end_count code f fs at (If o on_true on_false) = more_allowed code f fs at (If o on_true on_false) (λ h. h)
+end_count code f fs at (Switch p ls) = more_allowed code f fs at (Switch p ls) (λ h. h)
 end_count code f fs at (Call p callee types os l) =
     let end : TerminatorKind = Call p callee types os l in
     having_of (AtMost (suc (length fs))) (end_step code (f ∷ fs) at end) (quiet_weaker (λ o. frame_count o ≡ suc (length fs)) (AtMost (suc (length fs))) (end_step code (f ∷ fs) at end) (call_count code f fs at end tt) (λ o e. omega (arith, e)))

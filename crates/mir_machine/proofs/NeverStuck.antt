@@ -1,40 +1,44 @@
 -- Progress and preservation: a proper call of typed, initialised bodies is never stuck.
-use Rattle.std.proofs.Common.{◌≡◌, ◌∙◌, refl, sym, ap, subst, ℕ, zero, suc, ◌+◌, ◌≤◌, Bool, true, false, cond, List, [], ◌∷◌, length, take, drop, Option, Some, None, slice_get, arith}
+use Rattle.std.proofs.Common.{◌≡◌, ◌∙◌, refl, sym, ap, subst, ℕ, zero, suc, ◌+◌, ◌≤◌, ◌<◌, ◌==◌, ◌||◌, Bool, true, false, cond, List, [], ◌∷◌, length, take, drop, Option, Some, None, slice_get, arith}
+use Rattle.std.proofs.lemmas.Bool.{eq-eqb}
 use Rattle.std.proofs.lemmas.Option.{slice_get_within, same_Some}
 use Rattle.logic_term.specs.declared.kinds.Label.{Label}
-use Rattle.logic_term.specs.Ty.{Ty, Tys, bool, no_tys, and_ty}
+use Rattle.logic_term.specs.Ty.{Ty, Tys, bool, adt, no_tys, and_ty}
 use Rattle.logic_term.specs.Obligations.{how_many}
-use Rattle.logic_term.specs.Sort.{Declarations, instance}
+use Rattle.logic_term.specs.Sort.{Declarations, instance, instances}
 use Rattle.logic_term.specs.Theory.{Theory, declared}
 use Rattle.mir_ir.specs.declared.place.Place.{Place}
 use Rattle.mir_ir.specs.declared.place.Operand.{Operand}
 use Rattle.mir_ir.specs.declared.statement.Statement.{Statement}
 use Rattle.mir_ir.specs.declared.terminator.Callee.{Callee}
 use Rattle.mir_ir.specs.declared.terminator.TerminatorKind.{TerminatorKind}
-use Rattle.mir_ir.specs.declared.terminator.TerminatorKind.TheVariants.{Goto, If, Call, Return, Panic}
+use Rattle.mir_ir.specs.declared.terminator.TerminatorKind.TheVariants.{Goto, If, Switch, Call, Return, Panic}
 use Rattle.mir_ir.specs.declared.body.Block.{Block}
 use Rattle.mir_ir.specs.declared.body.Body.{Body}
 use Rattle.mir_ir.specs.declared.body.Bodies.{Bodies}
 use Rattle.mir_ir.specs.Acts.{acts_of_end}
 use Rattle.mir_ir.specs.Body.{answer_ty}
+use Rattle.mir_ir.specs.Declares.{Declares}
+use Rattle.mir_ir.specs.Layout.{among}
 use Rattle.mir_ir.specs.WellFormed.{HasBlock, EndIsTyped, Locals, Labelling, Within, with, MeetsMoveRows, all_done, AreSound}
+use Rattle.mir_ir.proofs.Declared.{variant_counts}
 use Rattle.mir_ir.proofs.Taking.{RowByRow, row_by_row, taken, all_taken, operands_done, run, CanEnd, Carries}
-use Rattle.mir_machine.specs.Try.{Try, Yields, Panics, Sticks, ◌>>=◌}
+use Rattle.mir_machine.specs.Try.{Try, Yields, Panics, Sticks, ◌>>=◌, need}
 use Rattle.mir_machine.specs.Tree.{Tree}
 use Rattle.mir_machine.specs.Frame.{Frame, State}
 use Rattle.mir_machine.specs.Memory.{running, tree_at, write}
 use Rattle.mir_machine.specs.Code.{Code, code_of}
-use Rattle.mir_machine.specs.Step.{Outcome, Running, Returned, Panicked, Stuck, outcome_of, statement_step, entered, outside, at_label, come_back, end_step, row, try_step, step, next, after_from, after}
+use Rattle.mir_machine.specs.Step.{Outcome, Running, Returned, Panicked, Stuck, outcome_of, statement_step, variant_of, switched, entered, outside, at_label, come_back, end_step, row, try_step, step, next, after_from, after}
 use Rattle.mir_machine.specs.Typed.{Met}
 use Rattle.mir_machine.specs.Good.{called, IsProper}
 use Rattle.mir_machine.specs.Run.{IsSafe}
 use Rattle.mir_machine.specs.Invariant.{Stop, stop_of, stops, local_at, HasType, HoldsLocals, Behind, from_outside, one_waits, AreLabelled, RunsAt, WaitsAt, StandTyped, IsAnswerOf, IsTypedRun}
 use Rattle.mir_machine.proofs.Tried.{Goes, goes_then}
-use Rattle.mir_machine.proofs.TypedTrees.{Shape, has_type_kept, has_shape}
-use Rattle.mir_machine.proofs.TypedRows.{Held, held_within, held_set, Takes, take_yields, take_all_yields, AreOf, are_of_kept, local_read, write_then, Ran, run_goes}
+use Rattle.mir_machine.proofs.TypedTrees.{Shape, has_type_kept, has_shape, adt_shape}
+use Rattle.mir_machine.proofs.TypedRows.{Held, held_within, held_set, Takes, take_yields, take_all_yields, AreOf, are_of_kept, local_read, read_yields, write_then, Ran, run_goes}
 use Rattle.mir_machine.proofs.Stacks.{behind_some, behind_to, outside_is, Waited, waits_are, held_moved, waits_kept, typed_args, entered_held, get_first, get_past, answer_is}
 use Rattle.mir_machine.proofs.Writes.{SameTrees, SameElsewhere, written_elsewhere, at_next, at_start, label_yields, same_behind, stops_length}
-use Rattle.mir_machine.proofs.EndRows.{callee_found, step-row, goto-row, if-row, call-row, return-row, back-row}
+use Rattle.mir_machine.proofs.EndRows.{callee_found, step-row, goto-row, if-row, switch-row, call-row, return-row, back-row}
 
 -- ---- a labelling for each body
 
@@ -55,13 +59,23 @@ module _ (bodies : Bodies) (sound : AreSound bodies) where
   unfolding labelling_of
   are_labelled f b is_body = ((sound f b is_body).0, chosen_meets f b (slice_get bodies.bodies f) refl is_body)
 
+-- a label of a list is among it
+pub is_among : (ls : List Label) (i : ℕ) (l : Label) → slice_get ls i ≡ Some l → among l ls ≡ true
+is_among [] i l e = absurd (cc)
+is_among (m ∷ ms) zero l e = ap (λ t. t || among l ms) (eq-eqb m.0 l.0 (ap (λ (n : Label). n.0) (same_Some _ _ e)))
+is_among (m ∷ ms) (suc i) l e = by (m.0 == l.0) (is_among ms i l e)
+  where
+    by : (t : Bool) → among l ms ≡ true → (t || among l ms) ≡ true
+    by true h = refl
+    by false h = h
+
 -- where there are no type parameters there are no types for them
 pub no_types_for_none : (θ : Tys) → how_many θ ≡ 0 → θ ≡ no_tys
 no_types_for_none no_tys e = refl
 no_types_for_none (and_ty t ts) e = absurd (omega arith)
 
 -- top: the function that is called from outside
-module _ {K : Type 0} (Δ : Declarations) (code : Code K) (labelling : ℕ → Labelling) (labelled : AreLabelled code.program labelling) (top : ℕ) where
+module _ {K : Type 0} (Δ : Declarations) (code : Code K) (labelling : ℕ → Labelling) (labelled : AreLabelled code.program labelling) (declares : Declares Δ code.program) (top : ℕ) where
   abbrev bodies : Bodies
   bodies = code.program
 
@@ -189,7 +203,7 @@ module _ {K : Type 0} (Δ : Declarations) (code : Code K) (labelling : ℕ → L
         let rows = (move_rows f.function b runs.in_body.is_body).statements f.label k f.statement st runs.in_body.is_block e in
         let set : Locals = labelling f.function f.label f.statement in
         goes_then (Ran Δ b g.types n inside s set st.kind (at_next g ∷ gs)) Fine (statement_step b f.types s st.span st.kind) (λ u. Yields (Running u))
-        (run_goes Δ b g.types n inside s set st.span st.kind g gs is_n refl runs.locals ((labelled f.function b runs.in_body.is_body).0.statements f.label k f.statement st runs.in_body.is_block e) rows.0)
+        (run_goes Δ b g.types n inside bodies declares s set st.span st.kind g gs is_n refl runs.locals ((labelled f.function b runs.in_body.is_body).0.statements f.label k f.statement st runs.in_body.is_block e) rows.0)
         (λ u ran. goes_on u (at_next g) refl ran.stay ran.elsewhere (record {
           in_body = record { body = b; is_body = runs.in_body.is_body; ground = runs.in_body.ground; block = k; is_block = runs.in_body.is_block };
           within = omega (arith, slice_get_within k.statements f.statement st e);
@@ -219,6 +233,17 @@ module _ {K : Type 0} (Δ : Declarations) (code : Code K) (labelling : ℕ → L
             let (u, is_u, stay, same) = if-row code s takes.after k.end.span o c l r g gs (takes.yields ∙ ap (λ t. Yields (takes.after, t)) is) takes.took.stay in
             let to = leads c in
             subst (Goes Fine) (sym is_u) (starts_at u (cond c l r) (taken o end_set) to.0 to.1 stay (λ at d. same at ∙ takes.took.elsewhere at d) (hold_same same takes.held))
+
+    switch_goes : (p : Place) (ls : List Label) → Hold s end_set → EndIsTyped bodies b (Switch p ls) → CanEnd end_set (Switch p ls) → Carries (λ m. labelling f.function m 0) end_set (Switch p ls) → Ends (Switch p ls)
+    switch_goes p ls held typed can carries =
+        let (t, is_t, there, has) = local_read Δ b g.types n inside s end_set p.local (adt typed.number typed.regions typed.types) held typed.place.1 can in
+        let (v, fs, us, is_made, is_v, are) = adt_shape Δ s t typed.number typed.regions (instances g.types typed.types) has.met has.typed in
+        let within : v < length ls = omega (arith, typed.count, variant_counts Δ bodies declares typed.number typed.declaration v fs typed.is_declared is_v) in
+        let (l, is_l) = get_first ls v within in
+        let to : switched s p ls ≡ Yields l =
+        ap (λ (m : Try (Tree K)). m >>= λ t. variant_of t >>= λ v. need (slice_get ls v)) (read_yields Δ b g.types n inside s p t is_n typed.place.0 is_t there ∙ ap Yields is_made) ∙ ap need is_l in
+        let (u, is_u, stay, same) = switch-row code s k.end.span p ls l g gs to refl in
+        subst (Goes Fine) (sym is_u) (starts_at u l end_set (typed.blocks v l is_l) (carries l (is_among ls v l is_l)) stay (λ at d. same at) (hold_same same held))
 
     call_goes : (p : Place) (callee : Callee) (types : List Ty) (os : List Operand) (l : Label) → f.statement ≡ length k.statements → k.end.kind ≡ Call p callee types os l → Hold s end_set → EndIsTyped bodies b (Call p callee types os l)
         → CanEnd end_set (Call p callee types os l) → Ends (Call p callee types os l)
@@ -274,6 +299,7 @@ module _ {K : Type 0} (Δ : Declarations) (code : Code K) (labelling : ℕ → L
     end_goes : f.statement ≡ length k.statements → (end : TerminatorKind) → k.end.kind ≡ end → Hold s end_set → EndIsTyped bodies b end → CanEnd end_set end → Carries (λ m. labelling f.function m 0) end_set end → Ends end
     end_goes last (Goto l) is held typed can carries = goto_goes l held typed carries
     end_goes last (If o l r) is held typed can carries = if_goes o l r held typed can carries
+    end_goes last (Switch p ls) is held typed can carries = switch_goes p ls held typed can carries
     end_goes last (Call p callee types os l) is held typed can carries = call_goes p callee types os l last is held typed can
     end_goes last Return is held typed can carries = return_goes held can
     end_goes last (Panic cause) is held typed can carries = tt
@@ -337,7 +363,7 @@ pub call_stays_typed : {K : Type 0} (Θ : Theory) (code : Code K) (labelling : �
     → (n : ℕ) → IsTypedRun (declared Θ) code.program labelling f (after code n (called b f θ args held))
 call_stays_typed Θ code labelling labelled f θ args held b met proper n =
     let start = Running (called b f θ args held) in
-    run_typed (declared Θ) code labelling labelled f n start (call_typed Θ code labelling labelled f θ args held b met proper)
+    run_typed (declared Θ) code labelling labelled proper.declares f n start (call_typed Θ code labelling labelled f θ args held b met proper)
 
 typed_free : {K : Type 0} (Δ : Declarations) (bodies : Bodies) (labelling : ℕ → Labelling) (top : ℕ) (o : Outcome K) → IsTypedRun Δ bodies labelling top o → o ≡ Stuck → ⊥
 typed_free Δ bodies labelling top o h e = subst (IsTypedRun Δ bodies labelling top) e h

@@ -3,9 +3,9 @@ use Rattle.std.proofs.Common.{◌≡◌, refl, Option, List, [], ◌∷◌, slic
 use Rattle.text_core.specs.declared.span.Span.{Span}
 use Rattle.source_kinds.specs.declared.kinds.IntKind.{IntKind}
 use Rattle.mir_ir.specs.declared.statement.Rvalue.{Rvalue}
-use Rattle.mir_ir.specs.declared.statement.Rvalue.TheVariants.{Use, Binary, Neg, Not, Widen, Make}
+use Rattle.mir_ir.specs.declared.statement.Rvalue.TheVariants.{Use, Binary, Neg, Not, Widen, Make, BoxNew}
 use Rattle.mir_machine.specs.Try.{Try, Yields, Panics, Sticks, ◌>>=◌, need}
-use Rattle.mir_machine.specs.Tree.{Tree}
+use Rattle.mir_machine.specs.Tree.{Tree, Boxed}
 use Rattle.mir_machine.specs.Frame.{State}
 use Rattle.mir_machine.specs.Step.{Taken, operand, operands, rvalue, binary, negated, inverted}
 use Rattle.mir_machine.specs.Taken.{operands_of, value_of}
@@ -54,3 +54,4 @@ module _ {K : Type 0} where
   rvalue-row s kind span (Not o) = single_row (operand s o) inverted
   rvalue-row s kind span (Widen o k) = use_row (operand s o)
   rvalue-row s kind span (Make c os) = refl
+  rvalue-row s kind span (BoxNew o) = single_row (operand s o) (λ t. Yields (Boxed t))

@@ -1,6 +1,7 @@
 -- Reading, writing and moving along a path from a local of the running frame.
 use Rattle.std.proofs.Common.{◌≡◌, ◌∙◌, refl, ap, ℕ, true, List, [], Option, Some, None, slice_get, slice_set}
-use Rattle.logic_term.specs.Sort.{Declarations, instance}
+use Rattle.logic_term.specs.Sort.{instance}
+use Rattle.logic_term.specs.Theory.{Theory, declared}
 use Rattle.logic_term.specs.Ty.{Ty, Tys}
 use Rattle.mir_ir.specs.declared.body.Body.{Body}
 use Rattle.mir_ir.specs.declared.place.Place.{Place}
@@ -37,29 +38,29 @@ put_as_whole {K} s n x children u t t' e is = in_frame (frame_at s n) e
     in_frame Sticks q = refl
 
 -- the place's local is initialised, and the path leads from its type to another
-pub record IsPlaceOf (Δ : Declarations) (b : Body) (θ : Tys) (set : Locals) (p : Place) (of : Ty) : Type 0 where
+pub record IsPlaceOf (Θ : Theory) (b : Body) (θ : Tys) (set : Locals) (p : Place) (of : Ty) : Type 0 where
   pub ty : Ty
   pub is_ty : slice_get b.locals p.local ≡ Some ty
   pub is_in : set p.local ≡ true
-  pub leads : LeadsTo Δ (instance θ ty) p.path of
+  pub leads : LeadsTo Θ (instance θ ty) p.path of
 
 -- inside: the running frame is not the outside
-module _ {K : Type 0} (Δ : Declarations) (b : Body) (θ : Tys) (n : ℕ) (inside : n ≡ 0 → ⊥) where
+module _ {K : Type 0} (Θ : Theory) (b : Body) (θ : Tys) (n : ℕ) (inside : n ≡ 0 → ⊥) where
   abbrev H : State K → Locals → Type 0
-  H s set = HoldsLocals Δ s n b θ set
+  H s set = HoldsLocals (declared Θ) s n b θ set
 
   -- the local's tree, and its part at the place
   pub record At (s : State K) (p : Place) (ty of : Ty) : Type 0 where
     pub tree : Tree K
     pub is_tree : tree_at s (local_at n p.local) ≡ Yields tree
-    pub there : Reached Δ s tree ty p.path of
+    pub there : Reached (declared Θ) s tree ty p.path of
     pub is_spot : spot_of s p ≡ Yields (within_spot (local_at n p.local) there.children)
     pub is_part : tree_at s (within_spot (local_at n p.local) there.children) ≡ Yields there.part
 
-  pub at_place : (s : State K) (set : Locals) (p : Place) (of : Ty) → running s ≡ n → H s set → (q : IsPlaceOf Δ b θ set p of) → At s p (instance θ q.ty) of
+  pub at_place : (s : State K) (set : Locals) (p : Place) (of : Ty) → running s ≡ n → H s set → (q : IsPlaceOf Θ b θ set p of) → At s p (instance θ q.ty) of
   at_place s set p of is_n h q =
-      let (t, is_t, there, typed) = local_read Δ b θ n inside s set p.local q.ty h q.is_ty q.is_in in
-      let r = reached Δ s q.leads t typed.met typed.typed typed.outer in
+      let (t, is_t, there, typed) = local_read (declared Θ) b θ n inside s set p.local q.ty h q.is_ty q.is_in in
+      let r = reached Θ s q.leads t typed.met typed.typed typed.outer in
       record {
         tree = t;
         is_tree = is_t;
@@ -69,7 +70,7 @@ module _ {K : Type 0} (Δ : Declarations) (b : Body) (θ : Tys) (n : ℕ) (insid
       }
 
   -- it reads as a tree of its type
-  pub place_read : (s : State K) (set : Locals) (p : Place) (of : Ty) → running s ≡ n → H s set → IsPlaceOf Δ b θ set p of → (t : Tree K) × (read s p ≡ Yields t) × HasType Δ s of t
+  pub place_read : (s : State K) (set : Locals) (p : Place) (of : Ty) → running s ≡ n → H s set → IsPlaceOf Θ b θ set p of → (t : Tree K) × (read s p ≡ Yields t) × HasType (declared Θ) s of t
   place_read s set p of is_n h q =
       let a = at_place s set p of is_n h q in
       let part : Tree K = a.there.part in (
@@ -79,7 +80,7 @@ module _ {K : Type 0} (Δ : Declarations) (b : Body) (θ : Tys) (n : ℕ) (insid
       )
 
   -- a value of its type is put there, and what is initialised stays so
-  pub place_written : (s : State K) (set : Locals) (p : Place) (of : Ty) (u : Tree K) → running s ≡ n → H s set → IsPlaceOf Δ b θ set p of → HasType Δ s of u
+  pub place_written : (s : State K) (set : Locals) (p : Place) (of : Ty) (u : Tree K) → running s ≡ n → H s set → IsPlaceOf Θ b θ set p of → HasType (declared Θ) s of u
       → (v : State K) × (write s p u ≡ Yields v) × (stops v ≡ stops s) × SameElsewhere n s v × H v (with p.local set)
   place_written s set p of u is_n h q typed =
       let a = at_place s set p of is_n h q in
@@ -89,11 +90,11 @@ module _ {K : Type 0} (Δ : Declarations) (b : Body) (θ : Tys) (n : ℕ) (insid
         ap (λ m. m >>= λ at. put_at s at u) a.is_spot ∙ put_as_whole s n p.local a.there.children u a.tree t' a.is_tree is_t' ∙ is_v,
         w.stay,
         written_elsewhere n refl w,
-        held_set Δ b θ n inside p.local q.ty w q.is_ty typed' h,
+        held_set (declared Θ) b θ n inside p.local q.ty w q.is_ty typed' h,
       )
 
   -- what is there is moved out: so far the whole local holds nothing of its type from then on
-  pub place_moved : (s : State K) (set : Locals) (p : Place) (of : Ty) → running s ≡ n → H s set → IsPlaceOf Δ b θ set p of → (v : State K) × (write s p Gone ≡ Yields v) × (stops v ≡ stops s) × SameElsewhere n s v × H v (without p.local set)
+  pub place_moved : (s : State K) (set : Locals) (p : Place) (of : Ty) → running s ≡ n → H s set → IsPlaceOf Θ b θ set p of → (v : State K) × (write s p Gone ≡ Yields v) × (stops v ≡ stops s) × SameElsewhere n s v × H v (without p.local set)
   place_moved s set p of is_n h q =
       let a = at_place s set p of is_n h q in
       let (t', is_t', there) = put_in_goes a.there.children a.tree Gone a.there.part a.there.is_part in
@@ -102,5 +103,5 @@ module _ {K : Type 0} (Δ : Declarations) (b : Body) (θ : Tys) (n : ℕ) (insid
         ap (λ m. m >>= λ at. put_at s at Gone) a.is_spot ∙ put_as_whole s n p.local a.there.children Gone a.tree t' a.is_tree is_t' ∙ is_v,
         w.stay,
         written_elsewhere n refl w,
-        held_gone Δ b θ n inside p.local w h,
+        held_gone (declared Θ) b θ n inside p.local w h,
       )

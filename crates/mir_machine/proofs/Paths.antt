@@ -4,10 +4,12 @@ use Rattle.std.proofs.lemmas.Option.{same_Some}
 use Rattle.logic_term.specs.declared.kinds.Ctor.{Ctor}
 use Rattle.logic_term.specs.declared.kinds.Ctor.TheVariants.{Tuple, Variant}
 use Rattle.logic_term.specs.Sort.{Declarations, instances}
-use Rattle.logic_term.specs.Ty.{Ty, Tys, boxed, no_tys, and_ty}
+use Rattle.logic_term.specs.Ty.{Ty, Tys, tuple, adt, boxed, no_tys, and_ty}
 use Rattle.mir_ir.specs.declared.place.Proj.{Proj}
 use Rattle.mir_ir.specs.declared.place.Proj.TheVariants.{Field, Deref}
-use Rattle.mir_ir.specs.Paths.{part_ty, LeadsTo, at_end, in_tuple, in_struct, in_box}
+use Rattle.logic_term.specs.Sorted.{sort_at, FieldSort}
+use Rattle.logic_term.specs.Theory.{Theory, declared}
+use Rattle.mir_ir.specs.Paths.{LeadsTo, at_end, in_field, in_box}
 use Rattle.mir_machine.specs.declared.spot.Spot.{Spot}
 use Rattle.mir_machine.specs.Try.{Try, Yields, ◌>>=◌, need}
 use Rattle.mir_machine.specs.Tree.{Tree, Trees, Made, Boxed, no_trees, and_tree, nth_tree, set_nth}
@@ -60,21 +62,21 @@ module _ {K : Type 0} (Δ : Declarations) (s : State K) where
     record { met = rest; typed = hs; outer = each_behind (λ r. r.place.frame ≡ 0) first rest outer },
   )
 
-  have_more : {t : Tree K} {ts : Trees K} {ty : Ty} {tys : Tys} → HasType Δ s ty t → Have ts tys → Have (and_tree t ts) (and_ty ty tys)
+  pub have_more : {t : Tree K} {ts : Trees K} {ty : Ty} {tys : Tys} → HasType Δ s ty t → Have ts tys → Have (and_tree t ts) (and_ty ty tys)
   have_more h hs = record { met = h.met ++ hs.met; typed = more_typed h.typed hs.typed; outer = each_both (λ r. r.place.frame ≡ 0) h.met hs.met h.outer hs.outer }
 
   no_more : {ty : Ty} {tys : Tys} (met : List Met) → AreTyped Δ s no_trees (and_ty ty tys) met → ⊥
   no_more met h = elim h [ ]
 
   -- the part of the number has its type
-  part_has : (ts : Trees K) (tys : Tys) (n : ℕ) (ty : Ty) → Have ts tys → part_ty tys n ≡ Some ty → (t : Tree K) × (nth_tree ts n ≡ Some t) × HasType Δ s ty t
+  part_has : (ts : Trees K) (tys : Tys) (n : ℕ) (ty : Ty) → Have ts tys → sort_at tys n ≡ Some ty → (t : Tree K) × (nth_tree ts n ≡ Some t) × HasType Δ s ty t
   part_has ts no_tys n ty h e = absurd (cc)
   part_has no_trees (and_ty u tys) n ty h e = absurd (no_more h.met h.typed)
   part_has (and_tree t ts) (and_ty u tys) zero ty h e = (t, refl, subst (λ q. HasType Δ s q t) (same_Some _ _ e) (have_first h.met h.typed h.outer).0)
   part_has (and_tree t ts) (and_ty u tys) (suc n) ty h e = part_has ts tys n ty (have_first h.met h.typed h.outer).1 e
 
   -- another value of the part's type in its place
-  part_set : (ts : Trees K) (tys : Tys) (n : ℕ) (ty : Ty) (u : Tree K) → Have ts tys → part_ty tys n ≡ Some ty → HasType Δ s ty u → Have (set_nth ts n u) tys
+  part_set : (ts : Trees K) (tys : Tys) (n : ℕ) (ty : Ty) (u : Tree K) → Have ts tys → sort_at tys n ≡ Some ty → HasType Δ s ty u → Have (set_nth ts n u) tys
   part_set ts no_tys n ty u h e has = absurd (cc)
   part_set no_trees (and_ty v tys) n ty u h e has = absurd (no_more h.met h.typed)
   part_set (and_tree t ts) (and_ty v tys) zero ty u h e has = have_more (subst (λ q. HasType Δ s q u) (sym (same_Some _ _ e)) has) (have_first h.met h.typed h.outer).1
@@ -94,7 +96,7 @@ module _ {K : Type 0} (Δ : Declarations) (s : State K) where
     pub puts : (u : Tree K) → HasType Δ s of u → (t' : Tree K) × (put_in children u t ≡ Yields t') × HasType Δ s ty t'
 
   -- one part further
-  made_reached : (c : Ctor) (ts : Trees K) (tys : Tys) (n : ℕ) (ty of : Ty) {whole : Ty} {path : List Proj} → Have ts tys → part_ty tys n ≡ Some ty → ((u : Tree K) → HasType Δ s ty u → Reached u ty path of)
+  made_reached : (c : Ctor) (ts : Trees K) (tys : Tys) (n : ℕ) (ty of : Ty) {whole : Ty} {path : List Proj} → Have ts tys → sort_at tys n ≡ Some ty → ((u : Tree K) → HasType Δ s ty u → Reached u ty path of)
       → ((us : Trees K) → Have us tys → HasType Δ s whole (Made c us)) → Reached (Made c ts) whole (Field n ∷ path) of
   made_reached c ts tys n ty of {path = path} h e rest remade =
       let (t, is_t, has) = part_has ts tys n ty h e in
@@ -130,7 +132,20 @@ module _ {K : Type 0} (Δ : Declarations) (s : State K) where
         (Boxed v, ap (λ (m : Try (Tree K)). m >>= λ d. Yields (Boxed d)) is_v, record { met = has_v.met; typed = is_boxed has_v.typed; outer = has_v.outer });
   }
 
-  pub reached : {ty of : Ty} {path : List Proj} → LeadsTo Δ ty path of → (t : Tree K) → (met : List Met) → Typed Δ s t ty met → Outer met → Reached t ty path of
+module _ {K : Type 0} (Θ : Theory) (s : State K) where
+  -- through a field of a tuple, or of the one variant of a declared type
+  field_reached : (whole ty of : Ty) (n : ℕ) {path : List Proj} → FieldSort Θ whole n ty → (t : Tree K) → (met : List Met) → Typed (declared Θ) s t whole met → Outer met
+      → ((u : Tree K) → HasType (declared Θ) s ty u → Reached (declared Θ) s u ty path of) → Reached (declared Θ) s t whole (Field n ∷ path) of
+  field_reached (tuple tys) ty of n e t met (is_tuple {ts = ts} h) outer rest =
+      made_reached (declared Θ) s Tuple ts tys n ty of (record { met = met; typed = h; outer = outer }) e rest (λ us has. record { met = has.met; typed = is_tuple has.typed; outer = has.outer })
+  field_reached (adt d rs args) ty of n (fields, first, alone, e) t met (is_adt {k = k} {fields = those} {ts = ts} declares h) outer rest =
+      let is_first : k ≡ 0 = alone k those declares in
+      let same : those ≡ fields = same_Some _ _ (sym declares ∙ ap (declared Θ d) is_first ∙ first) in
+      made_reached (declared Θ) s (Variant d k) ts (instances args those) n ty of (record { met = met; typed = h; outer = outer }) (ap (λ fs. sort_at (instances args fs) n) same ∙ e) rest
+      (λ us has. record { met = has.met; typed = is_adt declares has.typed; outer = has.outer })
+  field_reached whole ty of n field t met h outer rest = absurd field
+
+  pub reached : {ty of : Ty} {path : List Proj} → LeadsTo Θ ty path of → (t : Tree K) → (met : List Met) → Typed (declared Θ) s t ty met → Outer met → Reached (declared Θ) s t ty path of
   reached at_end t met h outer = record {
     children = [];
     part = t;
@@ -139,12 +154,6 @@ module _ {K : Type 0} (Δ : Declarations) (s : State K) where
     typed = record { met = met; typed = h; outer = outer };
     puts = λ u of_u. (u, refl, of_u);
   }
-  reached (in_tuple {ts = tys} {n = n} {part = ty} {t = of} e leads) t met (is_tuple {ts = ts} h) outer =
-      made_reached Tuple ts tys n ty of (record { met = met; typed = h; outer = outer }) e (λ u has. reached leads u has.met has.typed has.outer)
-      (λ us has. record { met = has.met; typed = is_tuple has.typed; outer = has.outer })
-  reached (in_struct {d = d} {rs = rs} {ts = args} {fields = fields} {n = n} {part = ty} {t = of} one e leads) t met (is_adt {k = k} {fields = those} {ts = ts} declares h) outer =
-      let is_first : k ≡ 0 = one.alone k those declares in
-      let same : those ≡ fields = same_Some _ _ (sym declares ∙ ap (Δ d) is_first ∙ one.first) in
-      made_reached (Variant d k) ts (instances args those) n ty of (record { met = met; typed = h; outer = outer }) (ap (λ fs. part_ty (instances args fs) n) same ∙ e) (λ u has. reached leads u has.met has.typed has.outer)
-      (λ us has. record { met = has.met; typed = is_adt declares has.typed; outer = has.outer })
-  reached (in_box {u = ty} {t = of} leads) t met (is_boxed {t = v} h) outer = boxed_reached v ty of (reached leads v met h outer)
+  reached (in_field {u = whole} {part = ty} {t = of} {n = n} field leads) t met h outer =
+      field_reached whole ty of n field t met h outer (λ u has. reached leads u has.met has.typed has.outer)
+  reached (in_box {u = ty} {t = of} leads) t met (is_boxed {t = v} h) outer = boxed_reached (declared Θ) s v ty of (reached leads v met h outer)

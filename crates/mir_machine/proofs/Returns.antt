@@ -2,7 +2,7 @@
 use Rattle.std.proofs.Common.{◌≡◌, ◌∙◌, refl, sym, ap, subst, [], ◌∷◌, ◌++◌, length, reverse, slice_get}
 use Rattle.std.proofs.lemmas.List.{length-reverse}
 use Rattle.mir_ir.specs.declared.terminator.TerminatorKind.{TerminatorKind}
-use Rattle.mir_ir.specs.declared.terminator.TerminatorKind.TheVariants.{Goto, If, Call, Return, Panic}
+use Rattle.mir_ir.specs.declared.terminator.TerminatorKind.TheVariants.{Goto, If, Switch, Call, Return, Panic}
 use Rattle.mir_ir.specs.declared.body.Block.{Block}
 use Rattle.mir_ir.specs.declared.body.Body.{Body}
 use Rattle.mir_ir.specs.declared.body.Bodies.{Bodies}
@@ -45,6 +45,7 @@ take_answer s t w = given s w t
 answered-row : (s : S) (t : T) (end : TerminatorKind) → answered t s end ≡ (waiting_at s end >>= take_answer s t)
 answered-row s t (Goto l) = refl
 answered-row s t (If o on_true on_false) = refl
+answered-row s t (Switch p ls) = refl
 answered-row s t Return = refl
 answered-row s t (Panic cause) = refl
 answered-row s t (Call p callee types os l) =

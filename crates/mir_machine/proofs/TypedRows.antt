@@ -7,31 +7,40 @@ use Rattle.text_core.specs.declared.span.Span.{Span}
 use Rattle.source_kinds.specs.declared.kinds.IntKind.{IntKind}
 use Rattle.source_kinds.specs.Range.{widens}
 use Rattle.source_kinds.proofs.Widening.{fits_wider}
-use Rattle.logic_term.specs.declared.kinds.Ctor.TheVariants.{Tuple}
-use Rattle.logic_term.specs.Ty.{Ty, Tys, int, bool, unit_ty}
-use Rattle.logic_term.specs.Sort.{Declarations, instance}
+use Rattle.logic_term.specs.declared.kinds.Ctor.{Ctor}
+use Rattle.logic_term.specs.declared.kinds.Ctor.TheVariants.{Tuple, Variant, Closure}
+use Rattle.logic_term.specs.Ty.{Ty, Tys, int, bool, boxed}
+use Rattle.logic_term.specs.TyView.{tys_of}
+use Rattle.logic_term.specs.Sort.{Declarations, instance, instances}
+use Rattle.logic_term.specs.Sorted.{MadeSort}
+use Rattle.logic_term.proofs.SortParts.{instances_instances}
 use Rattle.mir_ir.specs.declared.place.Lit.{Lit}
 use Rattle.mir_ir.specs.declared.place.Lit.TheVariants as lit
 use Rattle.mir_ir.specs.declared.place.Place.{Place}
 use Rattle.mir_ir.specs.declared.place.Operand.{Operand}
 use Rattle.mir_ir.specs.declared.place.Operand.TheVariants.{Copy, Move, Const}
 use Rattle.mir_ir.specs.declared.statement.Rvalue.{Rvalue}
-use Rattle.mir_ir.specs.declared.statement.Rvalue.TheVariants.{Use, Binary, Neg, Not, Widen, Make}
+use Rattle.mir_ir.specs.declared.statement.Rvalue.TheVariants.{Use, Binary, Neg, Not, Widen, Make, BoxNew}
 use Rattle.mir_ir.specs.declared.statement.StatementKind.{StatementKind}
 use Rattle.mir_ir.specs.declared.statement.StatementKind.TheVariants.{Assign, Dead}
 use Rattle.mir_ir.specs.declared.body.Body.{Body}
+use Rattle.mir_ir.specs.declared.body.Bodies.{Bodies}
 use Rattle.mir_ir.specs.Body.{whole as whole_ty, place_ty, kind_of, kind_in}
+use Rattle.mir_ir.specs.Declares.{Declares, theory_in}
 use Rattle.mir_ir.specs.WellFormed.{PlaceHas, LitHas, OperandHas, OperandsHave, RvalueHas, StatementIsTyped, Locals, without, with, Within}
+use Rattle.mir_ir.proofs.Declared.{declared_there}
 use Rattle.mir_ir.proofs.Taking.{CanTake, taken, CanTakeAll, all_taken, CanEvaluate, evaluated, CanRun, run}
 use Rattle.mir_machine.specs.Try.{Try, Yields, ◌>>=◌, need}
-use Rattle.mir_machine.specs.Tree.{Tree, Int, Truth, Made, Gone, trees_of}
+use Rattle.mir_machine.specs.Tree.{Tree, Trees, Int, Truth, Made, Boxed, Gone, trees_of}
 use Rattle.mir_machine.specs.Frame.{State}
 use Rattle.mir_machine.specs.Memory.{is_there, read, write, put_at, tree_at, running}
 use Rattle.mir_machine.specs.Step.{Taken, operand, operands, binary, negated, inverted, literal, whole, past, statement_step}
-use Rattle.mir_machine.specs.Taken.{operands_of, value_of}
+use Rattle.mir_machine.specs.Taken.{operands_of, boxed_first, value_of}
+use Rattle.mir_machine.specs.Typed.{AreTyped, is_tuple, is_adt, is_boxed, none_typed}
 use Rattle.mir_machine.specs.Invariant.{Stop, stops, local_at, HasType, HoldsLocals}
 use Rattle.mir_machine.proofs.Tried.{then_then, Goes, goes_then}
-use Rattle.mir_machine.proofs.TypedTrees.{has_type_kept, has_shape, has_int, has_truth, has_unit, SameOutside}
+use Rattle.mir_machine.proofs.TypedTrees.{has_type_kept, has_shape, has_int, has_truth, SameOutside}
+use Rattle.mir_machine.proofs.Paths.{Have, have_more}
 use Rattle.mir_machine.proofs.Operators.{binary_goes, negated_goes, inverted_goes}
 use Rattle.mir_machine.proofs.OperandsFirst.{rvalue-row}
 use Rattle.mir_machine.proofs.Writes.{Written, written_apart, put_yields, written_elsewhere, written_on, SameTrees, SameElsewhere, at_next, past_yields, whole-path}
@@ -85,6 +94,7 @@ evaluated_is (Neg o) set = refl
 evaluated_is (Not o) set = refl
 evaluated_is (Widen o k) set = refl
 evaluated_is (Make c os) set = refl
+evaluated_is (BoxNew o) set = refl
 
 pub can_take_all : (r : Rvalue) (set : Locals) → CanEvaluate set r → CanTakeAll set (operands_of r)
 can_take_all (Use o) set h = (h, tt)
@@ -93,6 +103,7 @@ can_take_all (Neg o) set h = (h, tt)
 can_take_all (Not o) set h = (h, tt)
 can_take_all (Widen o k) set h = (h, tt)
 can_take_all (Make c os) set h = h
+can_take_all (BoxNew o) set h = (h, tt)
 
 pub kind_of_place : (b : Body) (θ : Tys) (p : Place) (ty : Ty) → PlaceHas b p ty → kind_in (place_ty b θ p) ≡ kind_of (instance θ ty)
 kind_of_place b θ p ty h =
@@ -139,21 +150,41 @@ pub are_of_kept : {K : Type 0} {Δ : Declarations} {s : State K} {θ : Tys} {ts 
 are_of_kept u same h = record { count = h.count; each = λ i ty e. let t = h.each i ty e in (t.0, t.1, has_type_kept u same t.2) }
 
 -- the operands of a right side have these types
-abbrev pub operand_tys : (b : Body) (r : Rvalue) (ty : Ty) → RvalueHas b r ty → List Ty
-operand_tys b (Use o) ty has = ty ∷ []
-operand_tys b (Binary op x y) ty has = has.0 ∷ has.0 ∷ []
-operand_tys b (Neg o) ty has = int has.0 ∷ []
-operand_tys b (Not o) ty has = bool ∷ []
-operand_tys b (Widen o k) ty has = int has.0 ∷ []
-operand_tys b (Make c os) ty has = []
+abbrev pub operand_tys : (bodies : Bodies) (b : Body) (r : Rvalue) (ty : Ty) → RvalueHas bodies b r ty → List Ty
+operand_tys bodies b (Use o) ty has = ty ∷ []
+operand_tys bodies b (Binary op x y) ty has = has.0 ∷ has.0 ∷ []
+operand_tys bodies b (Neg o) ty has = int has.0 ∷ []
+operand_tys bodies b (Not o) ty has = bool ∷ []
+operand_tys bodies b (Widen o k) ty has = int has.0 ∷ []
+operand_tys bodies b (Make c os) ty has = has.0
+operand_tys bodies b (BoxNew o) ty has = has.0 ∷ []
 
-pub operands_have : (b : Body) (r : Rvalue) (ty : Ty) (has : RvalueHas b r ty) → OperandsHave b (operands_of r) (operand_tys b r ty has)
-operands_have b (Use o) ty has = (has, tt)
-operands_have b (Binary op x y) ty (of, has_x, has_y, op_has) = (has_x, (has_y, tt))
-operands_have b (Neg o) ty (k, signed, has, is_ty) = (has, tt)
-operands_have b (Not o) ty (has, is_ty) = (has, tt)
-operands_have b (Widen o k) ty (j, wide, has, is_ty) = (has, tt)
-operands_have b (Make c os) ty (is_c, none, is_ty) = subst (λ qs. OperandsHave b qs []) (sym none) tt
+pub operands_have : (bodies : Bodies) (b : Body) (r : Rvalue) (ty : Ty) (has : RvalueHas bodies b r ty) → OperandsHave b (operands_of r) (operand_tys bodies b r ty has)
+operands_have bodies b (Use o) ty has = (has, tt)
+operands_have bodies b (Binary op x y) ty (of, has_x, has_y, op_has) = (has_x, (has_y, tt))
+operands_have bodies b (Neg o) ty (k, signed, has, is_ty) = (has, tt)
+operands_have bodies b (Not o) ty (has, is_ty) = (has, tt)
+operands_have bodies b (Widen o k) ty (j, wide, has, is_ty) = (has, tt)
+operands_have bodies b (Make c os) ty (tys, have, made) = have
+operands_have bodies b (BoxNew o) ty (of, has, is_ty) = (has, tt)
+
+-- a value is made of trees of these types
+pub have_all : {K : Type 0} (Δ : Declarations) (s : State K) (θ : Tys) (ts : List (Tree K)) (tys : List Ty) → AreOf Δ s θ ts tys → Have Δ s (trees_of ts) (instances θ (tys_of tys))
+have_all Δ s θ [] [] are = record { met = []; typed = none_typed; outer = tt }
+have_all Δ s θ [] (ty ∷ tys) are = absurd (omega (arith, are.count))
+have_all Δ s θ (t ∷ ts) [] are = absurd (omega (arith, are.count))
+have_all Δ s θ (t ∷ ts) (ty ∷ tys) are =
+    let first = are.each 0 ty refl in
+    have_more Δ s (subst (HasType Δ s (instance θ ty)) (sym (same_Some _ _ first.1)) first.2)
+    (have_all Δ s θ ts tys (record { count = omega (arith, are.count); each = λ i q e. are.each (suc i) q e }))
+
+pub made_typed : {K : Type 0} (Δ : Declarations) (s : State K) (θ : Tys) (bodies : Bodies) → Declares Δ bodies → (c : Ctor) (ts : Trees K) (tys : Tys) (ty : Ty) → MadeSort (theory_in bodies) c tys ty → Have Δ s ts (instances θ tys)
+    → HasType Δ s (instance θ ty) (Made c ts)
+made_typed Δ s θ bodies declares Tuple ts tys ty is h = subst (λ q. HasType Δ s (instance θ q) (Made Tuple ts)) (sym is) (record { met = h.met; typed = is_tuple h.typed; outer = h.outer })
+made_typed Δ s θ bodies declares (Variant d k) ts tys ty (rs, args, fs, is, e, fields) h =
+    let typed : AreTyped Δ s ts (instances (instances θ args) fs) h.met = subst (λ qs. AreTyped Δ s ts qs h.met) (ap (instances θ) fields ∙ instances_instances θ args fs) h.typed in
+    subst (λ q. HasType Δ s (instance θ q) (Made (Variant d k) ts)) (sym is) (record { met = h.met; typed = is_adt (declared_there Δ bodies declares d k fs e) typed; outer = h.outer })
+made_typed Δ s θ bodies declares (Closure n) ts tys ty is h = absurd is
 
 -- inside: the running frame is not the outside
 module _ {K : Type 0} (Δ : Declarations) (b : Body) (θ : Tys) (n : ℕ) (inside : n ≡ 0 → ⊥) where
@@ -221,7 +252,7 @@ module _ {K : Type 0} (Δ : Declarations) (b : Body) (θ : Tys) (n : ℕ) (insid
       let typed = h.typed x ty u.0 is_in is_ty u.1 in
       (u.0, u.1, (has_shape typed).0, typed)
 
-  read_yields : (s : State K) (p : Place) (t : Tree K) → running s ≡ n → p.path ≡ [] → tree_at s (local_at n p.local) ≡ Yields t → is_there t ≡ Yields t → read s p ≡ Yields t
+  pub read_yields : (s : State K) (p : Place) (t : Tree K) → running s ≡ n → p.path ≡ [] → tree_at s (local_at n p.local) ≡ Yields t → is_there t ≡ Yields t → read s p ≡ Yields t
   read_yields s p t is_n no_path e there =
       ap (read s) (whole-path p no_path) ∙ ap (λ k. tree_at s (local_at k p.local) >>= is_there) is_n ∙ ap (λ (m : Try (Tree K)). m >>= is_there) e ∙ there
 
@@ -314,31 +345,33 @@ module _ {K : Type 0} (Δ : Declarations) (b : Body) (θ : Tys) (n : ℕ) (insid
       let (z, is, e) = (has_shape t.2).1 in
       subst (λ (q : Option (Tree K)). Goes (HasType Δ u (int k)) (need q)) (sym t.1) (subst (HasType Δ u (int k)) (sym is) (has_int k z (fits_wider j k z wide e)))
 
-  unit_goes : (u : State K) (ts : List (Tree K)) → AreOf Δ u θ ts [] → HasType Δ u unit_ty (Made Tuple (trees_of ts))
-  unit_goes u [] are = has_unit
-  unit_goes u (t ∷ ts) are = absurd (omega (arith, are.count))
+  box_goes : (u : State K) (of : Ty) (ts : List (Tree K)) → AreOf Δ u θ ts (of ∷ []) → Goes (HasType Δ u (boxed (instance θ of))) (boxed_first ts)
+  box_goes u of ts are =
+      let t = are.each 0 of refl in
+      with_tree (HasType Δ u (boxed (instance θ of))) (slice_get ts 0) t.0 (λ v. Yields (Boxed v)) t.1 (record { met = t.2.met; typed = is_boxed t.2.typed; outer = t.2.outer })
 
   -- what is made of trees of these types is of the right side's type
-  value_goes : (u : State K) (span : Span) (r : Rvalue) (ty : Ty) (has : RvalueHas b r ty) (ts : List (Tree K)) → AreOf Δ u θ ts (operand_tys b r ty has)
+  value_goes : (bodies : Bodies) → Declares Δ bodies → (u : State K) (span : Span) (r : Rvalue) (ty : Ty) (has : RvalueHas bodies b r ty) (ts : List (Tree K)) → AreOf Δ u θ ts (operand_tys bodies b r ty has)
       → Goes (HasType Δ u (instance θ ty)) (value_of (kind_of (instance θ ty)) span r ts)
-  value_goes u span (Use o) ty has ts are = use_goes u ty ts are
-  value_goes u span (Binary op x y) ty (of, has_x, has_y, op_has) ts are =
+  value_goes bodies declares u span (Use o) ty has ts are = use_goes u ty ts are
+  value_goes bodies declares u span (Binary op x y) ty (of, has_x, has_y, op_has) ts are =
       let t = are.each 0 of refl in
       let w = are.each 1 of refl in
       let kind : Option IntKind = kind_of (instance θ ty) in
       let P : Tree K → Type 0 = HasType Δ u (instance θ ty) in
       with_tree P (slice_get ts 0) t.0 (λ x. need (slice_get ts 1) >>= binary kind span op x) t.1
       (with_tree P (slice_get ts 1) w.0 (binary kind span op t.0) w.1 (binary_goes Δ u θ span op of ty t.0 w.0 op_has (has_shape t.2) (has_shape w.2)))
-  value_goes u span (Neg o) ty (k, signed, has, is_ty) ts are =
+  value_goes bodies declares u span (Neg o) ty (k, signed, has, is_ty) ts are =
       subst (λ q. Goes (HasType Δ u (instance θ q)) (value_of (kind_of (instance θ q)) span (Neg o) ts)) (sym is_ty)
       (one_goes u (int k) (int k) (negated (Some k) span) ts are (λ t typed. negated_goes Δ u k span t (has_shape typed)))
-  value_goes u span (Not o) ty (has, is_ty) ts are =
+  value_goes bodies declares u span (Not o) ty (has, is_ty) ts are =
       subst (λ q. Goes (HasType Δ u (instance θ q)) (value_of (kind_of (instance θ q)) span (Not o) ts)) (sym is_ty)
       (one_goes u bool bool inverted ts are (λ t typed. inverted_goes Δ u t (has_shape typed)))
-  value_goes u span (Widen o k) ty (j, wide, has, is_ty) ts are =
+  value_goes bodies declares u span (Widen o k) ty (j, wide, has, is_ty) ts are =
       subst (λ q. Goes (HasType Δ u (instance θ q)) (value_of (kind_of (instance θ q)) span (Widen o k) ts)) (sym is_ty) (wide_goes u j k ts wide are)
-  value_goes u span (Make c os) ty (is_c, none, is_ty) ts are =
-      subst (λ q. HasType Δ u (instance θ q) (Made c (trees_of ts))) (sym is_ty) (subst (λ d. HasType Δ u unit_ty (Made d (trees_of ts))) (sym is_c) (unit_goes u ts are))
+  value_goes bodies declares u span (Make c os) ty (tys, have, made) ts are = made_typed Δ u θ bodies declares c (trees_of ts) (tys_of tys) ty made (have_all Δ u θ ts tys are)
+  value_goes bodies declares u span (BoxNew o) ty (of, has, is_ty) ts are =
+      subst (λ q. Goes (HasType Δ u (instance θ q)) (boxed_first ts)) (sym is_ty) (box_goes u of ts are)
 
   -- ---- statements
 
@@ -351,20 +384,20 @@ module _ {K : Type 0} (Δ : Declarations) (b : Body) (θ : Tys) (n : ℕ) (insid
     pub puts : (t : Tree K) → (v : State K) × ((write takes.after p t >>= past) ≡ Yields v) × Written takes.after (local_at n p.local) t ks v
     pub row : statement_step b θ s span (Assign p r) ≡ (value_of (kind_in (place_ty b θ p)) span r takes.trees >>= λ t. write takes.after p t >>= past)
 
-  pub assign_yields : (s : State K) (set : Locals) (span : Span) (p : Place) (r : Rvalue) (ty : Ty) (g : Stop) (gs : List Stop) → running s ≡ n → stops s ≡ g ∷ gs → Held s set
-      → PlaceHas b p ty → RvalueHas b r ty → CanEvaluate set r → Assigns s set span p r ty (at_next g ∷ gs)
-  assign_yields s set span p r ty g gs is_n is_stops h has_p has can =
+  pub assign_yields : (bodies : Bodies) → Declares Δ bodies → (s : State K) (set : Locals) (span : Span) (p : Place) (r : Rvalue) (ty : Ty) (g : Stop) (gs : List Stop) → running s ≡ n → stops s ≡ g ∷ gs → Held s set
+      → PlaceHas b p ty → RvalueHas bodies b r ty → CanEvaluate set r → Assigns s set span p r ty (at_next g ∷ gs)
+  assign_yields bodies declares s set span p r ty g gs is_n is_stops h has_p has can =
       let kind : Option IntKind = kind_in (place_ty b θ p) in
-      let tys : List Ty = operand_tys b r ty has in
-      let takes = take_all_yields s set (operands_of r) tys is_n h (operands_have b r ty has) (can_take_all r set can) in
+      let tys : List Ty = operand_tys bodies b r ty has in
+      let takes = take_all_yields s set (operands_of r) tys is_n h (operands_have bodies b r ty has) (can_take_all r set can) in
       let finish : Taken K → Try (State K) = λ q. write q.0 p q.1 >>= past in
       let beside : Tree K → Try (Taken K) = λ t. Yields (takes.after, t) in
       let slot = takes.held.slot p.local ty has_p.1 in
       record {
         tys = tys;
-        have = operands_have b r ty has;
+        have = operands_have bodies b r ty has;
         takes = takes;
-        value = subst (λ k. Goes (HasType Δ takes.after (instance θ ty)) (value_of k span r takes.trees)) (sym (kind_of_place b θ p ty has_p)) (value_goes takes.after span r ty has takes.trees takes.typed);
+        value = subst (λ k. Goes (HasType Δ takes.after (instance θ ty)) (value_of k span r takes.trees)) (sym (kind_of_place b θ p ty has_p)) (value_goes bodies declares takes.after span r ty has takes.trees takes.typed);
         puts = λ t. write_then takes.after n p t slot.0 past (at_next g ∷ gs) (still_running s takes.after n takes.stay is_n) has_p.0 slot.1 (λ v stay. past_yields v g gs (stay ∙ takes.stay ∙ is_stops));
         row = ap (λ (m : Try (Taken K)). m >>= finish) (rvalue-row s kind span r)
             ∙ ap (λ (m : Try (State K × List (Tree K))). (m >>= λ q. value_of kind span r q.1 >>= λ t. Yields (q.0, t)) >>= finish) takes.yields
@@ -392,15 +425,15 @@ module _ {K : Type 0} (Δ : Declarations) (b : Body) (θ : Tys) (n : ℕ) (insid
     elsewhere = λ at d. written_elsewhere n refl w at d ∙ a.takes.elsewhere at d;
   }
 
-  pub run_goes : (s : State K) (set : Locals) (span : Span) (kind : StatementKind) (g : Stop) (gs : List Stop) → running s ≡ n → stops s ≡ g ∷ gs → Held s set → StatementIsTyped b kind → CanRun set kind
+  pub run_goes : (bodies : Bodies) → Declares Δ bodies → (s : State K) (set : Locals) (span : Span) (kind : StatementKind) (g : Stop) (gs : List Stop) → running s ≡ n → stops s ≡ g ∷ gs → Held s set → StatementIsTyped bodies b kind → CanRun set kind
       → Goes (Ran s set kind (at_next g ∷ gs)) (statement_step b θ s span kind)
-  run_goes s set span (Assign p r) g gs is_n is_stops h (ty, has, typed) can =
-      let a = assign_yields s set span p r ty g gs is_n is_stops h has typed can in
+  run_goes bodies declares s set span (Assign p r) g gs is_n is_stops h (ty, has, typed) can =
+      let a = assign_yields bodies declares s set span p r ty g gs is_n is_stops h has typed can in
       let P : State K → Type 0 = Ran s set (Assign p r) (at_next g ∷ gs) in
       let kind : Option IntKind = kind_in (place_ty b θ p) in
       subst (Goes P) (sym a.row)
       (goes_then (HasType Δ a.takes.after (instance θ ty)) P (value_of kind span r a.takes.trees) (λ t. write a.takes.after p t >>= past) a.value
       (λ t is_typed. let v = a.puts t in subst (Goes P) (sym v.1) (assigned_ran a t v.0 has is_typed v.2)))
-  run_goes s set span (Dead x) g gs is_n is_stops h (ty, is_ty) can =
+  run_goes bodies declares s set span (Dead x) g gs is_n is_stops h (ty, is_ty) can =
       let (v, is_v, w) = dead_yields s set span x ty g gs is_n is_stops h is_ty in
       subst (Goes (Ran s set (Dead x) (at_next g ∷ gs))) (sym is_v) (record { held = held_gone x w h; stay = w.stay; elsewhere = written_elsewhere n refl w })

@@ -1,10 +1,12 @@
 -- What trees of a type look like, and where they keep their type.
-use Rattle.std.proofs.Common.{◌≡◌, ◌∙◌, refl, ap, ℤ, Bool, true, List, [], ◌∷◌, ◌++◌}
+use Rattle.std.proofs.Common.{◌≡◌, ◌∙◌, refl, ap, ℕ, ℤ, Bool, true, List, [], ◌∷◌, ◌++◌, Some}
 use Rattle.source_kinds.specs.Range.{fits}
 use Rattle.source_kinds.specs.declared.kinds.IntKind.{IntKind}
-use Rattle.logic_term.specs.declared.kinds.Ctor.TheVariants.{Tuple}
-use Rattle.logic_term.specs.Sort.{Declarations}
-use Rattle.logic_term.specs.Ty.{Ty, Tys, int, bool, tuple, no_tys, and_ty, unit_ty}
+use Rattle.logic_term.specs.declared.kinds.AdtId.{AdtId}
+use Rattle.logic_term.specs.declared.kinds.Ctor.TheVariants.{Tuple, Variant}
+use Rattle.logic_term.specs.declared.kinds.Region.{Region}
+use Rattle.logic_term.specs.Sort.{Declarations, instances}
+use Rattle.logic_term.specs.Ty.{Ty, Tys, int, bool, tuple, adt, no_tys, and_ty}
 use Rattle.mir_machine.specs.declared.spot.Spot.{Spot}
 use Rattle.mir_machine.specs.Try.{Yields}
 use Rattle.mir_machine.specs.Tree.{Tree, Trees, Int, Truth, Made, no_trees}
@@ -60,6 +62,11 @@ typed_shape Δ s t ty met (is_boxed h) = (refl, tt)
 typed_shape Δ s t ty met (is_shared e h) = (refl, tt)
 typed_shape Δ s t ty met (is_unique e h) = (refl, tt)
 
+-- a tree of a declared type is one of its variants
+pub adt_shape : {K : Type 0} (Δ : Declarations) (s : State K) (t : Tree K) (d : AdtId) (rs : List Region) (tys : Tys) (met : List Met) → Typed Δ s t (adt d rs tys) met
+    → (k : ℕ) × (fs : Tys) × (ts : Trees K) × (t ≡ Made (Variant d k) ts) × (Δ d k ≡ Some fs) × AreTyped Δ s ts (instances tys fs) met
+adt_shape Δ s t d rs tys met (is_adt {k = k} {fields = fs} {ts = ts} e h) = (k, fs, ts, refl, e, h)
+
 -- ---- other states
 
 -- the spot holds in both states the same
@@ -104,6 +111,3 @@ has_int k z e = record { met = []; typed = is_int e; outer = tt }
 
 pub has_truth : {K : Type 0} {Δ : Declarations} {s : State K} (b : Bool) → HasType Δ s bool (Truth b)
 has_truth b = record { met = []; typed = is_truth; outer = tt }
-
-pub has_unit : {K : Type 0} {Δ : Declarations} {s : State K} → HasType Δ s unit_ty (Made Tuple no_trees)
-has_unit = record { met = []; typed = is_tuple none_typed; outer = tt }

@@ -2,7 +2,7 @@
 use Rattle.std.specs.Prelude.{◌≡◌, ℕ, ◌<◌, ◌≤◌, [], ◌∷◌, Option, Some, option_and_then, slice_get, length}
 use Rattle.text_core.specs.declared.refusal.LimitKind.TheVariants.{Frames}
 use Rattle.mir_ir.specs.declared.terminator.TerminatorKind.{TerminatorKind}
-use Rattle.mir_ir.specs.declared.terminator.TerminatorKind.TheVariants.{Goto, If, Call, Return, Panic}
+use Rattle.mir_ir.specs.declared.terminator.TerminatorKind.TheVariants.{Goto, If, Switch, Call, Return, Panic}
 use Rattle.mir_ir.specs.declared.body.Block.{Block}
 use Rattle.mir_machine.specs.declared.run_error.RunError.{RunError}
 use Rattle.mir_machine.specs.declared.run_error.RunError.TheVariants as run_error
@@ -16,6 +16,7 @@ use Rattle.mir_machine.specs.Code.{code_of}
 abbrev pub IsCall : TerminatorKind → Type 0
 IsCall (Goto l) = ⊥
 IsCall (If o on_true on_false) = ⊥
+IsCall (Switch p ls) = ⊥
 IsCall (Call p callee types os l) = Unit {0}
 IsCall Return = ⊥
 IsCall (Panic cause) = ⊥

@@ -16,6 +16,7 @@ use Rattle.mir_machine.specs.Try.{Yields}
 use Rattle.mir_machine.specs.Tree.{Tree, trees_of}
 use Rattle.mir_machine.specs.Frame.{State}
 use Rattle.mir_ir.specs.Body.{param_tys, answer_ty}
+use Rattle.mir_ir.specs.Declares.{Declares}
 use Rattle.mir_machine.specs.Memory.{tree_at}
 use Rattle.mir_machine.specs.Step.{Outcome, Running, Returned, Panicked, Stuck, after, entered, outside}
 use Rattle.mir_machine.specs.Typed.{Met, Typed, AreTyped}
@@ -47,6 +48,8 @@ pub record IsProper {K : Type 0} (Θ : Theory) (bodies : Bodies) (f : ℕ) (θ :
   pub of : slice_get bodies.bodies f ≡ Some b
   -- so far bodies have no type parameters
   pub ground : IsInstance Θ [] θ
+  -- types are those that the bodies declare
+  pub declares : Declares (declared Θ) bodies
   pub outside_typed : Each (λ t. (ty : Ty) × (rs : List Met) × Typed (declared Θ) (called b f θ args held) t ty rs) held
   pub typed : AreTyped (declared Θ) (called b f θ args held) (trees_of args) (param_tys b θ) met
   -- they refer to places of frame 0

@@ -1,5 +1,5 @@
 -- One step of the machine, and many. The rows are those of the Rust Reference: "Operator expressions" (overflow, and what
--- panics at `/`, `%` and `-x`), "Type cast expressions", "Expressions" (operands from the left), "if expressions", and "Call expressions" (the operands
+-- panics at `/`, `%` and `-x`), "Type cast expressions", "Expressions" (operands from the left), "if expressions", "Match expressions", and "Call expressions" (the operands
 -- are evaluated from the left before the call). Definitions bound no number of frames.
 use Rattle.std.specs.Prelude.{ℕ, zero, suc, ◌+◌, ◌-◌, ℤ, pos, neg_ℤ, ◌+ℤ◌, ◌-ℤ◌, ◌*ℤ◌, int_div, int_rem, int_lt, int_le, Bool, true, false, not, cond, List, [], ◌∷◌, ◌++◌, length, replicate, Option, Some, None, slice_get}
 use Rattle.std.specs.Ordering.{int_eq}
@@ -7,6 +7,8 @@ use Rattle.text_core.specs.declared.refusal.Cause.{Cause}
 use Rattle.text_core.specs.declared.refusal.Cause.TheVariants.{Overflow, Division}
 use Rattle.text_core.specs.declared.span.Span.{Span}
 use Rattle.source_kinds.specs.declared.kinds.IntKind.{IntKind}
+use Rattle.logic_term.specs.declared.kinds.Ctor.{Ctor}
+use Rattle.logic_term.specs.declared.kinds.Ctor.TheVariants.{Variant}
 use Rattle.logic_term.specs.declared.kinds.Label.{Label}
 use Rattle.source_kinds.specs.declared.kinds.BinaryOp.{BinaryOp}
 use Rattle.source_kinds.specs.declared.kinds.BinaryOp.TheVariants.{Add, Sub, Mul, Div, Rem, Eq, Ne, Lt, Le, Gt, Ge}
@@ -18,17 +20,17 @@ use Rattle.mir_ir.specs.declared.place.Lit.TheVariants as lit
 use Rattle.mir_ir.specs.declared.place.Operand.{Operand}
 use Rattle.mir_ir.specs.declared.place.Operand.TheVariants.{Copy, Move, Const}
 use Rattle.mir_ir.specs.declared.statement.Rvalue.{Rvalue}
-use Rattle.mir_ir.specs.declared.statement.Rvalue.TheVariants.{Use, Binary, Neg, Not, Widen, Make}
+use Rattle.mir_ir.specs.declared.statement.Rvalue.TheVariants.{Use, Binary, Neg, Not, Widen, Make, BoxNew}
 use Rattle.mir_ir.specs.declared.statement.StatementKind.{StatementKind}
 use Rattle.mir_ir.specs.declared.statement.StatementKind.TheVariants.{Assign, Dead}
 use Rattle.mir_ir.specs.declared.statement.Statement.{Statement}
 use Rattle.mir_ir.specs.declared.terminator.Callee.{Callee}
 use Rattle.mir_ir.specs.declared.terminator.TerminatorKind.{TerminatorKind}
-use Rattle.mir_ir.specs.declared.terminator.TerminatorKind.TheVariants.{Goto, If, Call, Return, Panic}
+use Rattle.mir_ir.specs.declared.terminator.TerminatorKind.TheVariants.{Goto, If, Switch, Call, Return, Panic}
 use Rattle.mir_ir.specs.declared.terminator.Terminator.{Terminator}
 use Rattle.mir_ir.specs.declared.body.Body.{Body}
 use Rattle.mir_machine.specs.Try.{Try, Yields, Panics, Sticks, ◌>>=◌, need}
-use Rattle.mir_machine.specs.Tree.{Tree, Int, Truth, Gone, Made, trees_of}
+use Rattle.mir_machine.specs.Tree.{Tree, Int, Truth, Gone, Made, Boxed, trees_of}
 use Rattle.mir_machine.specs.Frame.{Frame, State}
 use Rattle.mir_ir.specs.Body.{block_in, place_ty, kind_in}
 use Rattle.mir_ir.specs.Callees.{callee_of}
@@ -133,6 +135,9 @@ rvalue s kind span (Widen o k) = operand s o
 rvalue s kind span (Make c os) = do
   (s₁, ts) ← operands s os
   Yields (s₁, Made c (trees_of ts))
+rvalue s kind span (BoxNew o) = do
+  (s₁, t) ← operand s o
+  Yields (s₁, Boxed t)
 
 -- ---- steps
 
@@ -222,6 +227,22 @@ leave bodies (f ∷ fs) = do
 
 -- ---- ends of blocks
 
+-- the variant of a tree that has to be one of a declared type
+abbrev pub variant_of_ctor : Ctor → Try ℕ
+variant_of_ctor (Variant d v) = Yields v
+variant_of_ctor _ = Sticks
+
+abbrev pub variant_of : {K : Type 0} → Tree K → Try ℕ
+variant_of (Made c ts) = variant_of_ctor c
+variant_of _ = Sticks
+
+-- the label of the variant that the place has
+abbrev pub switched : {K : Type 0} → State K → Place → List Label → Try Label
+switched s p ls = do
+  t ← read s p
+  v ← variant_of t
+  need (slice_get ls v)
+
 abbrev pub end_step : {K : Type 0} → Code K → State K → Span → TerminatorKind → Try (Outcome K)
 end_step code s span (Goto l) = at_label l s >>= λ s'. Yields (Running s')
 end_step code s span (If o on_true on_false) = do
@@ -229,6 +250,10 @@ end_step code s span (If o on_true on_false) = do
   b ← truth_of t
   s₂ ← at_label (cond b on_true on_false) s₁
   Yields (Running s₂)
+end_step code s span (Switch p ls) = do
+  l ← switched s p ls
+  s' ← at_label l s
+  Yields (Running s')
 end_step code s span (Call p callee types os l) = do
   (s₁, args) ← operands s os
   f ← callee_frame code.program callee args

@@ -16,11 +16,11 @@ use Rattle.mir_machine.specs.declared.ends.Waiting.{Waiting}
 use Rattle.mir_ir.specs.declared.place.Place.{Place}
 use Rattle.mir_ir.specs.declared.place.Operand.{Operand}
 use Rattle.mir_ir.specs.declared.statement.Rvalue.{Rvalue}
-use Rattle.mir_ir.specs.declared.statement.Rvalue.TheVariants.{Use, Binary, Neg, Not, Widen, Make}
+use Rattle.mir_ir.specs.declared.statement.Rvalue.TheVariants.{Use, Binary, Neg, Not, Widen, Make, BoxNew}
 use Rattle.mir_machine.specs.declared.spot.Spot.{Spot}
 use Rattle.mir_machine.specs.declared.taken.Taken.{Taken}
 use Rattle.mir_machine.specs.Try.{Try, Yields, Sticks, ◌>>=◌, need}
-use Rattle.mir_machine.specs.Tree.{Tree, Made, Gone, trees_of}
+use Rattle.mir_machine.specs.Tree.{Tree, Made, Boxed, Gone, trees_of}
 use Rattle.mir_machine.specs.Frame.{State}
 use Rattle.mir_machine.specs.Memory.{put_at, write, spot_of}
 use Rattle.mir_machine.specs.Step.{operand, operands, rvalue, binary, negated, inverted, truth_of, at_label, whole, callee_frame}
@@ -42,6 +42,13 @@ operands_of (Neg o) = o ∷ []
 operands_of (Not o) = o ∷ []
 operands_of (Widen o k) = o ∷ []
 operands_of (Make c os) = os
+operands_of (BoxNew o) = o ∷ []
+
+-- a box of the first tree
+abbrev pub boxed_first : {K : Type 0} → List (Tree K) → Try (Tree K)
+boxed_first ts = do
+  t ← need (slice_get ts 0)
+  Yields (Boxed t)
 
 -- the value of a right side, from the trees of its operands
 abbrev pub value_of : {K : Type 0} → Option IntKind → Span → Rvalue → List (Tree K) → Try (Tree K)
@@ -54,6 +61,7 @@ value_of kind span (Neg o) ts = need (slice_get ts 0) >>= negated kind span
 value_of kind span (Not o) ts = need (slice_get ts 0) >>= inverted
 value_of kind span (Widen o k) ts = need (slice_get ts 0)
 value_of kind span (Make c os) ts = Yields (Made c (trees_of ts))
+value_of kind span (BoxNew o) ts = boxed_first ts
 
 -- the state in which the place has the right side's value
 abbrev pub assigned : {K : Type 0} → State K → Option IntKind → Span → Rvalue → Place → Try (State K)

@@ -4,7 +4,7 @@ ghost use Rattle.mir_machine.specs.Halt.{Comes};
 ghost use Rattle.mir_machine.specs.Tree.{Gone};
 ghost use Rattle.mir_machine.specs.Run.{outcome_of_step};
 ghost use Rattle.mir_machine.specs.Code.{code_of};
-ghost use Rattle.mir_machine.specs.Step.{at_label, leave, end_step};
+ghost use Rattle.mir_machine.specs.Step.{variant_of, variant_of_ctor, switched, at_label, leave, end_step};
 ghost use Rattle.mir_machine.specs.Taken.{branched, called_from, waiting, given, IsEven, GoesBack};
 ghost use Rattle.mir_machine.specs.Try.{Yields};
 
@@ -15,10 +15,10 @@ use crate::memory::{nth, put_at, spot_of};
 use crate::running::block_of;
 use crate::spot::Spot;
 use crate::statements::{first_of, truth_on};
-use crate::taken::{Taken, is_there, take, take_all};
-use crate::tree::Tree;
-use logic_term::Label;
-use mir_ir::{Bodies, Callee, Operand, Terminator, TerminatorKind};
+use crate::taken::{Taken, is_there, read, take, take_all};
+use crate::tree::{Tree, TreeNode};
+use logic_term::{Ctor, Label};
+use mir_ir::{Bodies, Callee, Operand, Place, Terminator, TerminatorKind};
 use std::alloc::Global;
 use std::mem;
 use text_core::NoMemory;
@@ -63,6 +63,36 @@ fn branch(
     let holds = truth_on(nth(&taken.trees, 0)?)?;
     go_to(state, chosen(holds, yes, no));
     Ok(())
+}
+
+/// The variant that a tree is of its type.
+fn variant_of(tree: &Tree) -> Result<u32, Halt>
+    ensures variant { Comes result (variant_of tree.now) (λ v. v) }
+    ensures memory { result ≢ Err Halt.NoMemory }
+{
+    match &tree.node {
+        TreeNode::Made(ctor, _) => variant_of_ctor(*ctor),
+        _ => Err(Halt::Stuck),
+    }
+}
+
+fn variant_of_ctor(ctor: Ctor) -> Result<u32, Halt>
+    ensures variant { Comes result (variant_of_ctor ctor) (λ v. v) }
+    ensures memory { result ≢ Err Halt.NoMemory }
+{
+    match ctor {
+        Ctor::Variant(_, v) => Ok(v),
+        _ => Err(Halt::Stuck),
+    }
+}
+
+/// The label of the variant that the place has.
+fn switched(alloc: Global, state: &State, place: &Place, labels: &[Label]) -> Result<Label, Halt>
+    ensures { Comes result (switched state.now place.now labels.now) (λ l. l) }
+{
+    let variant = variant_of(read(alloc, state, place)?)?;
+    let label = labels.get(variant as usize).ok_or(Halt::Stuck)?;
+    Ok(*label)
 }
 
 /// Where the running frame waits for an answer.
@@ -174,7 +204,7 @@ fn call(
 }
 
 /// The end of a block; `Some` with the answer where the run returns.
-#[tactic(auto, using(crate::proofs::BlockEnds::choice_stops, crate::proofs::BlockEnds::choice_goes, crate::proofs::BlockEnds::call_stops, crate::proofs::BlockEnds::call_goes, crate::proofs::BlockEnds::jump_goes, crate::proofs::Undoing::none_taken))]
+#[tactic(auto, using(crate::proofs::BlockEnds::choice_stops, crate::proofs::BlockEnds::choice_goes, crate::proofs::BlockEnds::call_stops, crate::proofs::BlockEnds::call_goes, crate::proofs::BlockEnds::jump_goes, crate::proofs::BlockEnds::switch_stops, crate::proofs::BlockEnds::switch_goes, crate::proofs::Undoing::none_taken))]
 pub fn end_block(
     alloc: Global,
     bodies: &Bodies,
@@ -194,6 +224,11 @@ pub fn end_block(
         }
         TerminatorKind::If(condition, yes, no) => {
             branch(alloc, state, taken, condition, *yes, *no)?;
+            Ok(None)
+        }
+        TerminatorKind::Switch(place, labels) => {
+            let label = switched(alloc, state, place, labels.as_slice())?;
+            go_to(state, label);
             Ok(None)
         }
         TerminatorKind::Call(_, callee, _, operands, _) => {

@@ -5,7 +5,7 @@ ghost use Rattle.mir_machine.specs.Halt.{Comes};
 ghost use Rattle.mir_machine.specs.Memory.{write};
 ghost use Rattle.mir_machine.specs.Step.{binary, negated, truth_of, past, statement_step};
 ghost use Rattle.mir_machine.specs.Try.{Yields, need};
-ghost use Rattle.mir_machine.specs.Taken.{take_more, operands_of, value_of, assigned, changed, types_of, IsEven, GoesBack, statement_of};
+ghost use Rattle.mir_machine.specs.Taken.{take_more, operands_of, boxed_first, value_of, assigned, changed, types_of, IsEven, GoesBack, statement_of};
 
 use crate::arithmetic::{negate, operate, truth, truth_of};
 use crate::entry::gone;
@@ -15,7 +15,7 @@ use crate::memory::{nth, put_at, spot_of};
 use crate::running::kind_of;
 use crate::scalar::scalar_of;
 use crate::taken::{Taken, take, take_all};
-use crate::tree::{Tree, TreeNode};
+use crate::tree::{PointerTree, Tree, TreeNode};
 use logic_term::Ty;
 use mir_ir::{Body, Place, Rvalue, Statement, StatementKind};
 use source_kinds::{BinaryOp, IntKind};
@@ -58,6 +58,7 @@ fn take_rvalue(
         Rvalue::Not(operand) => take(alloc, state, taken, operand),
         Rvalue::Widen(operand, _) => take(alloc, state, taken, operand),
         Rvalue::Make(_, parts) => take_all(alloc, state, taken, parts.as_slice()),
+        Rvalue::BoxNew(operand) => take(alloc, state, taken, operand),
     }
 }
 
@@ -84,10 +85,7 @@ pub fn first_of(trees: Vec<Tree>) -> Result<Tree, Halt>
     ensures memory { result ≢ Err Halt.NoMemory }
 {
     let mut trees = trees;
-    if trees.is_empty() {
-        return Err(Halt::Stuck);
-    }
-    Ok(mem::replace(&mut trees[0], gone()))
+    take_first(&mut trees)
 }
 
 /// The value of `-x`, where a place of this kind is written.
@@ -108,26 +106,51 @@ pub fn truth_on(tree: &Tree) -> Result<bool, Halt>
     truth_of(scalar_of(tree)?)
 }
 
-/// The value of a right side, from the trees of its operands.
+/// Takes the first tree out.
+fn take_first(trees: &mut Vec<Tree>) -> Result<Tree, Halt>
+    ensures first { Comes result (need (slice_get trees.old.items 0)) (λ t. t) }
+    ensures memory { result ≢ Err Halt.NoMemory }
+{
+    if trees.is_empty() {
+        return Err(Halt::Stuck);
+    }
+    Ok(mem::replace(&mut trees[0], gone()))
+}
+
+/// A box of the first tree, which is taken out. For want of memory it stays.
+fn boxed_first(alloc: Global, trees: &mut Vec<Tree>) -> Result<Tree, Halt>
+    ensures boxed { Comes result (boxed_first trees.old.items) (λ t. t) }
+    ensures memory { result ≡ Err Halt.NoMemory → trees.new ≡ trees.old }
+{
+    let Ok(mut pointer) = Box::new(alloc, PointerTree::Boxed(gone())) else {
+        return Err(Halt::NoMemory);
+    };
+    *pointer = PointerTree::Boxed(take_first(trees)?);
+    Ok(Tree {
+        node: TreeNode::Pointer(pointer),
+    })
+}
+
+/// The value of a right side, from the trees of its operands, which are taken. For want of memory they stay.
 fn value_of(
+    alloc: Global,
     kind: Option<IntKind>,
     span: Span,
     rvalue: &Rvalue,
-    trees: Vec<Tree>,
+    trees: &mut Vec<Tree>,
 ) -> Result<Tree, Halt>
-    ensures value { Comes result (value_of kind span rvalue.now trees.items) (λ t. t) }
-    ensures memory { result ≢ Err Halt.NoMemory }
+    ensures value { Comes result (value_of kind span rvalue.now trees.old.items) (λ t. t) }
+    ensures memory { result ≡ Err Halt.NoMemory → trees.new ≡ trees.old }
 {
     match rvalue {
-        Rvalue::Use(_) | Rvalue::Widen(_, _) => first_of(trees),
-        Rvalue::Binary(op, _, _) => {
-            operate_on(kind, span, *op, nth(&trees, 0)?, nth(&trees, 1)?)
-        }
-        Rvalue::Neg(_) => negate_on(kind, span, nth(&trees, 0)?),
-        Rvalue::Not(_) => Ok(truth(!truth_on(nth(&trees, 0)?)?)),
+        Rvalue::Use(_) | Rvalue::Widen(_, _) => take_first(trees),
+        Rvalue::Binary(op, _, _) => operate_on(kind, span, *op, nth(trees, 0)?, nth(trees, 1)?),
+        Rvalue::Neg(_) => negate_on(kind, span, nth(trees, 0)?),
+        Rvalue::Not(_) => Ok(truth(!truth_on(nth(trees, 0)?)?)),
         Rvalue::Make(ctor, _) => Ok(Tree {
-            node: TreeNode::Made(*ctor, trees),
+            node: TreeNode::Made(*ctor, mem::replace(trees, Vec::new(alloc))),
         }),
+        Rvalue::BoxNew(_) => boxed_first(alloc, trees),
     }
 }
 
@@ -164,8 +187,7 @@ fn assign(
     if let Err(Halt::NoMemory) = &at {
         return Err(Halt::NoMemory);
     }
-    let trees = mem::replace(&mut taken.trees, Vec::new(alloc));
-    let tree = value_of(kind, span, rvalue, trees)?;
+    let tree = value_of(alloc, kind, span, rvalue, &mut taken.trees)?;
     put_at(state, &at?, tree)?;
     Ok(())
 }

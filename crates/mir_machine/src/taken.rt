@@ -74,7 +74,7 @@ pub fn is_there(tree: &Tree) -> Result<&Tree, Halt>
 }
 
 /// The tree of a place.
-fn read<'a>(alloc: Global, state: &'a State, place: &Place) -> Result<&'a Tree, Halt>
+pub fn read<'a>(alloc: Global, state: &'a State, place: &Place) -> Result<&'a Tree, Halt>
     ensures { Comes result (read state.now place.now) (λ t. t.now) }
 {
     let at = spot_of(alloc, state, place)?;

@@ -4,7 +4,7 @@ use Rattle.std.proofs.lemmas.Bool.{eqb-true}
 use Rattle.std.specs.Prelude.{slice_get}
 use Rattle.logic_term.specs.declared.kinds.Label.{Label}
 use Rattle.mir_ir.specs.declared.terminator.TerminatorKind.{TerminatorKind}
-use Rattle.mir_ir.specs.declared.terminator.TerminatorKind.TheVariants.{Goto, If, Call}
+use Rattle.mir_ir.specs.declared.terminator.TerminatorKind.TheVariants.{Goto, If, Switch, Call}
 use Rattle.logic_term.specs.Ty.{Ty}
 use Rattle.mir_ir.specs.declared.terminator.Callee.{Callee}
 use Rattle.mir_ir.specs.declared.place.Operand.{Operand}
@@ -180,6 +180,13 @@ next_arrival w heads l k m can may named = by_edge (can.laid_out.edges l m k may
 pub among_here : (l : Label) (ls : List Label) → among l (l ∷ ls) ≡ true
 among_here l ls = ap (λ b. b || among l ls) (eq-eqb l.0 l.0 refl)
 
+pub among_behind : (x l : Label) (ls : List Label) → among x ls ≡ true → among x (l ∷ ls) ≡ true
+among_behind x l ls e = ap (λ b. (l.0 == x.0) || b) e ∙ or_right (l.0 == x.0)
+  where
+    or_right : (a : Bool) → (a || true) ≡ true
+    or_right true = refl
+    or_right false = refl
+
 pub among_second : (l m : Label) → among m (l ∷ m ∷ []) ≡ true
 among_second l m = ap (λ b. (l.0 == m.0) || b) (among_here m []) ∙ or_right (l.0 == m.0)
   where
@@ -195,6 +202,9 @@ if_names_yes kind o l m e = ap (λ k. among l (targets k)) e ∙ among_here l (m
 
 pub if_names_no : (kind : TerminatorKind) (o : Operand) (l m : Label) → kind ≡ If o l m → among m (targets kind) ≡ true
 if_names_no kind o l m e = ap (λ k. among m (targets k)) e ∙ among_second l m
+
+pub switch_names : (kind : TerminatorKind) (p : Place) (ls : List Label) (l : Label) → kind ≡ Switch p ls → among l ls ≡ true → among l (targets kind) ≡ true
+switch_names kind p ls l e named = ap (λ k. among l (targets k)) e ∙ named
 
 pub call_names : (kind : TerminatorKind) (p : Place) (c : Callee) (types : List Ty) (args : List Operand) (l : Label) → kind ≡ Call p c types args l → among l (targets kind) ≡ true
 call_names kind p c types args l e = ap (λ k. among l (targets k)) e ∙ among_here l []

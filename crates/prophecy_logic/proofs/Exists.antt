@@ -1,18 +1,19 @@
 -- Each body that can be walked has a walk.
 use Rattle.std.proofs.Common.{◌≡◌, inl, inr, refl, ap, ℕ, zero, suc, ◌+◌, ◌*◌, ◌<◌, ◌≤◌, true, false, cond, List, [], ◌∷◌, length, Option, Some, None, slice_get, arith}
 use Rattle.logic_term.specs.declared.kinds.Label.{Label}
+use Rattle.mir_ir.specs.declared.place.Place.{Place}
 use Rattle.mir_ir.specs.declared.terminator.TerminatorKind.{TerminatorKind}
-use Rattle.mir_ir.specs.declared.terminator.TerminatorKind.TheVariants.{Goto, If, Call, Return, Panic}
+use Rattle.mir_ir.specs.declared.terminator.TerminatorKind.TheVariants.{Goto, If, Switch, Call, Return, Panic}
 use Rattle.mir_ir.specs.declared.body.Block.{Block}
 use Rattle.mir_ir.specs.declared.body.Head.{Head}
 use Rattle.mir_ir.specs.declared.body.Point.{Point}
 use Rattle.mir_ir.specs.Body.{block_in}
 use Rattle.mir_ir.specs.Layout.{among, targets}
-use Rattle.prophecy_logic.specs.Graph.{Setting, start_of, behind, Within, by_statement, by_end, Ends, goto, branch, call, return, panic, Arrives, plain, first, again}
+use Rattle.prophecy_logic.specs.Graph.{Setting, start_of, behind, Within, by_statement, by_end, Ends, goto, branch, switch, call, return, panic, Sides, no_side, last_side, one_side, Arrives, plain, first, again}
 use Rattle.prophecy_logic.specs.Laws.{WalksExist}
 use Rattle.prophecy_logic.specs.Walk.{Walk}
 use Rattle.prophecy_logic.specs.Walkable.{CanWalk, MayArrive, MayWalk}
-use Rattle.prophecy_logic.proofs.ArriveLaws.{either, room, arrival_measure, plain_block, head_block, next_arrival, goto_names, if_names_yes, if_names_no, call_names}
+use Rattle.prophecy_logic.proofs.ArriveLaws.{either, room, arrival_measure, plain_block, head_block, next_arrival, goto_names, if_names_yes, if_names_no, switch_names, call_names, among_here, among_behind}
 
 abbrev HasArrival : Setting → List Label → Label → Type 0
 HasArrival w heads l = (v : Walk) × Arrives w heads l v
@@ -30,6 +31,14 @@ with_statements w heads k (suc left) p is last e ends =
     let r = with_statements w heads k left (behind p) is (omega (arith, last)) e ends in
     (_, by_statement here.0 (record { block = k; is_block = is; is_statement = here.1 }) r.1)
 
+-- there is a walk from a switch on, if there is one from each of its labels on
+sides_exist : (w : Setting) (heads : List Label) (p : Place) (k : ℕ) (ls : List Label) → ((m : Label) → among m ls ≡ true → HasArrival w heads m) → (v : Walk) × Sides w heads p k ls v
+sides_exist w heads p k [] to = (_, no_side)
+sides_exist w heads p k (l ∷ []) to = (_, last_side (to l (among_here l [])).1)
+sides_exist w heads p k (l ∷ m ∷ ms) to =
+    let rest = sides_exist w heads p (k + 1) (m ∷ ms) (λ n named. to n (among_behind n l (m ∷ ms) named)) in
+    (_, one_side (to l (among_here l (m ∷ ms))).1 rest.1)
+
 -- a block's end has a walk, if each arrival that is nearer has one
 end_has_walk : (w : Setting) (heads : List Label) (l : Label) (k : Block) → CanWalk w → MayWalk w heads l k → ((m : Label) → MayArrive w heads m → arrival_measure w.body.blocks heads m < 4 * room w.body.blocks l → HasArrival w heads m) → (v : Walk) × Ends w heads k.end v
 end_has_walk w heads l k can may nearer = by_kind k.end.kind refl
@@ -43,6 +52,7 @@ end_has_walk w heads l k can may nearer = by_kind k.end.kind refl
         let a = to on_true (if_names_yes k.end.kind o on_true on_false e) in
         let b = to on_false (if_names_no k.end.kind o on_true on_false e) in
         (_, branch o on_true on_false e a.1 b.1)
+    by_kind (Switch p ls) e = let s = sides_exist w heads p 0 ls (λ m named. to m (switch_names k.end.kind p ls m e named)) in (s.0, switch p ls e s.1)
     by_kind (Call p callee types args m) e =
         let a = to m (call_names k.end.kind p callee types args m e) in
         let known = can.calls l k p callee types args m may.is_block e in

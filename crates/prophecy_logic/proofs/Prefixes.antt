@@ -1,21 +1,22 @@
 -- The goals of a body's walk are those of its prefixes.
-use Rattle.std.proofs.Common.{◌≡◌, ◌∙◌, refl, sym, ap, ap₂, subst, zero, suc, true, false, List, [], ◌∷◌, ◌++◌, map, inl, inr, Some, None, arith}
+use Rattle.std.proofs.Common.{◌≡◌, ◌∙◌, refl, sym, ap, ap₂, subst, ℕ, zero, suc, ◌+◌, true, false, List, [], ◌∷◌, ◌++◌, map, inl, inr, Some, None, slice_get, arith}
 use Rattle.std.specs.Prelude.{Contains}
 use Rattle.std.proofs.lemmas.List.{map-append}
 use Rattle.std.proofs.lemmas.List.Elements.{Contains-append_left, Contains-append_right, Contains-append_cases}
 use Rattle.logic_term.specs.declared.kinds.Label.{Label}
+use Rattle.mir_ir.specs.declared.place.Place.{Place}
 use Rattle.mir_ir.specs.declared.terminator.Terminator.{Terminator}
-use Rattle.mir_ir.specs.declared.terminator.TerminatorKind.TheVariants.{Goto, If, Call, Return, Panic}
+use Rattle.mir_ir.specs.declared.terminator.TerminatorKind.TheVariants.{Goto, If, Switch, Call, Return, Panic}
 use Rattle.mir_ir.specs.declared.body.Point.{Point}
 use Rattle.mir_ir.specs.Layout.{among}
 use Rattle.prophecy_logic.specs.declared.command.Command.{Command}
 use Rattle.prophecy_logic.specs.declared.goal.Goal.{Goal}
-use Rattle.prophecy_logic.specs.Graph.{Setting, start_of, behind, IsAtEnd, Within, by_statement, by_end, Ends, goto, branch, call, return, panic, Arrives, plain, first, again, goals_of_walk}
+use Rattle.prophecy_logic.specs.Graph.{Setting, start_of, behind, IsAtEnd, Within, by_statement, by_end, Ends, goto, branch, switch, call, return, panic, Sides, no_side, last_side, one_side, Arrives, plain, first, again, goals_of_walk}
 use Rattle.prophecy_logic.specs.Laws.{PrefixesHaveGoals, GoalsAreSeenBefore}
 use Rattle.prophecy_logic.specs.Loop.{head_commands}
-use Rattle.prophecy_logic.specs.Prefix.{At, arrival, within, Prefix, entry, into_block, into_head, over_statement, along_goto, to_true_side, to_false_side, over_call, IsMet, at_entry, after_turn, at_statement, at_call, at_return, at_panic, IsGoalOfPrefix, of_prefix}
+use Rattle.prophecy_logic.specs.Prefix.{At, arrival, within, Prefix, entry, into_block, into_head, over_statement, along_goto, to_true_side, to_false_side, to_variant, over_call, IsMet, at_entry, after_turn, at_statement, at_call, at_return, at_panic, IsGoalOfPrefix, of_prefix}
 use Rattle.prophecy_logic.specs.Row.{goals_of, commands_of}
-use Rattle.prophecy_logic.specs.Walk.{goal_before, seen_before, goals_at_return, goals_at_panic, where_true, where_false, goals_at_entry, goals_after_turn, goals_of_call, call_commands, Walk, stop, row, fork, owed, met}
+use Rattle.prophecy_logic.specs.Walk.{goal_before, seen_before, goals_at_return, goals_at_panic, where_true, where_false, where_variant, goals_at_entry, goals_after_turn, goals_of_call, call_commands, Walk, stop, row, fork, owed, met}
 use Rattle.prophecy_logic.proofs.Ahead.{before_append}
 use Rattle.prophecy_logic.proofs.Steps.{some_same, to_end, ends_by, comes_by}
 use Rattle.prophecy_logic.proofs.Steps as steps
@@ -81,6 +82,24 @@ module _ (w : Setting) (tree : Walk) where
     all = λ g h. s.all g (subst (λ v. Contains (owed cs v) g) (sym is) (Contains-append_right (owed (cs ++ ds) a) (owed (cs ++ es) b) g h));
   }
 
+  -- the side of variant n, in what a walk has left from a switch on, for the variants from j on
+  side_there : {heads : List Label} {q : Place} {j : ℕ} {ls : List Label} {v : Walk} (cs : List Command) (k n : ℕ) (l : Label) → Sides w heads q j ls v → slice_get ls k ≡ Some l → n ≡ j + k
+      → (u : Walk) × Arrives w heads l u × ((g : Goal) → Contains (owed (cs ++ where_variant w.body w.decls q n) u) g → Contains (owed cs v) g)
+  side_there cs k n l no_side e is = absurd (let none : None ≡ Some l = e in cc)
+  side_there {heads} {q} {j} cs zero n l (last_side {l = m} {u = u} a) e is =
+      let same : n ≡ j = omega (arith, is) in
+      (u, subst (λ x. Arrives w heads x u) (some_same e) a, λ g h. subst (λ i. Contains (owed (cs ++ where_variant w.body w.decls q i) u) g) same h)
+  side_there cs (suc k) n l (last_side a) e is = absurd (let none : None ≡ Some l = e in cc)
+  side_there {heads} {q} {j} cs zero n l (one_side {l = m} {u = u} {v = x} a s) e is =
+      let same : n ≡ j = omega (arith, is) in (
+        u,
+        subst (λ y. Arrives w heads y u) (some_same e) a,
+        λ g h. Contains-append_left (owed (cs ++ where_variant w.body w.decls q j) u) (owed cs x) g (subst (λ i. Contains (owed (cs ++ where_variant w.body w.decls q i) u) g) same h),
+      )
+  side_there {heads} {q} {j} cs (suc k) n l (one_side {u = u} {v = x} a s) e is =
+      let r = side_there cs k n l s e (omega (arith, is)) in
+      (r.0, r.1, λ g h. Contains-append_right (owed (cs ++ where_variant w.body w.decls q j) u) (owed cs x) g (r.2 g h))
+
   stood : Arrives w [] w.body.entry tree → (heads : List Label) (at : At) (cs : List Command) → Prefix w heads at cs → Stood w tree heads at cs
   stood a heads at cs entry = record { left = tree; stands = a; all = λ g h. h }
   stood a heads at cs (into_block {l = l} k x is none) =
@@ -105,6 +124,10 @@ module _ (w : Setting) (tree : Walk) where
       let s = stood a heads (within p) bs x in
       let e = ends_by (to_end s.stands end here) (If o on_true on_false) is in
       to_second heads (within p) (arrival on_false) bs (where_true w.body o) (where_false w.body o) e.0 e.2 s e.3 e.4
+  stood a heads at cs (to_variant {p = p} {cs = bs} end q ls k l x here is is_l) =
+      let s = stood a heads (within p) bs x in
+      let r = side_there bs k k l (ends_by (to_end s.stands end here) (Switch q ls) is) is_l (omega arith) in
+      record { left = r.0; stands = r.1; all = λ g h. s.all g (r.2 g h) }
   stood a heads at cs (over_call {p = p} {cs = bs} end q callee types args l d t x here is is_d is_t) =
       let s = stood a heads (within p) bs x in
       let e = ends_by (to_end s.stands end here) (Call q callee types args l) is in
@@ -162,6 +185,7 @@ module _ (w : Setting) where
           | inl m ↦ from_arrival heads on_true a (cs ++ where_true w.body o) t to_a (to_true_side end o on_true on_false x here is) m
           | inr m ↦ from_arrival heads on_false b (cs ++ where_false w.body o) t to_b (to_false_side end o on_true on_false x here is) m
         ]
+    from_end heads end v p cs t (switch q ls is s) here x h = from_sides heads end p cs t q ls 0 ls v s (λ k n l e i. subst (λ j. slice_get ls j ≡ Some l) (let same : k ≡ n = omega (arith, i) in same) e) is here x h
     from_end heads end v p cs t (call {v = u} q callee types args l d ty is is_d is_t a) here x h =
         elim (Contains-append_cases (seen_before cs (goals_of_call w.body d end.span args)) (owed (cs ++ call_commands w.body d q.local ty args) u) t h) [
           | inl m ↦ found heads (within p) cs (goals_of_call w.body d end.span args) t (λ g i. at_call end q callee types args l d here is is_d i) x m
@@ -176,6 +200,18 @@ module _ (w : Setting) where
         elim (Contains-append_cases (seen_before cs (goals_at_panic end.span)) [] t h) [
           | inl m ↦ found heads (within p) cs (goals_at_panic end.span) t (λ g i. at_panic end cause here is i) x m
           | inr m ↦ absurd (omega (arith, m.1))
+        ]
+
+    -- the labels from variant j on are those of the switch from there on
+    from_sides : (heads : List Label) (end : Terminator) (p : Point) (cs : List Command) (t : Goal) (q : Place) (all : List Label) (j : ℕ) (ls : List Label) (v : Walk) → Sides w heads q j ls v
+        → ((k n : ℕ) (l : Label) → slice_get ls k ≡ Some l → n ≡ j + k → slice_get all n ≡ Some l) → end.kind ≡ Switch q all → IsAtEnd w.body p end → Prefix w heads (within p) cs → Contains (owed cs v) t → IsGoalOfPrefix w t
+    from_sides heads end p cs t q all j ls v no_side among_all is here x h = absurd (omega (arith, h.1))
+    from_sides heads end p cs t q all j ls v (last_side {l = l} {u = u} a) among_all is here x h =
+        from_arrival heads l u (cs ++ where_variant w.body w.decls q j) t a (to_variant end q all j l x here is (among_all 0 j l refl (omega arith))) h
+    from_sides heads end p cs t q all j ls v (one_side {l = l} {u = u} {v = y} a s) among_all is here x h =
+        elim (Contains-append_cases (owed (cs ++ where_variant w.body w.decls q j) u) (owed cs y) t h) [
+          | inl m ↦ from_arrival heads l u (cs ++ where_variant w.body w.decls q j) t a (to_variant end q all j l x here is (among_all 0 j l refl (omega arith))) m
+          | inr m ↦ from_sides heads end p cs t q all (j + 1) _ y s (λ k n m e i. among_all (suc k) n m e (omega (arith, i))) is here x m
         ]
 
     from_arrival : (heads : List Label) (l : Label) (v : Walk) (cs : List Command) (t : Goal) → Arrives w heads l v → Prefix w heads (arrival l) cs → Contains (owed cs v) t → IsGoalOfPrefix w t

@@ -1,12 +1,13 @@
 -- What a walk does next: by the statement or the end at a point, by the kind of an end, and by the head of a block.
-use Rattle.std.proofs.Common.{◌≡◌, ◌∙◌, refl, sym, ap, subst, ℕ, suc, zero, Bool, true, false, List, [], ◌∷◌, length, Option, Some, None, slice_get, arith}
+use Rattle.std.proofs.Common.{◌≡◌, ◌∙◌, refl, sym, ap, subst, ℕ, suc, zero, ◌+◌, Bool, true, false, List, [], ◌∷◌, length, Option, Some, None, slice_get, arith}
 use Rattle.logic_term.specs.declared.kinds.Label.{Label}
 use Rattle.logic_term.specs.declared.obligation.Contract.{Contract}
 use Rattle.logic_term.specs.Ty.{Ty}
+use Rattle.mir_ir.specs.declared.place.Place.{Place}
 use Rattle.mir_ir.specs.declared.statement.Statement.{Statement}
 use Rattle.mir_ir.specs.declared.terminator.Terminator.{Terminator}
 use Rattle.mir_ir.specs.declared.terminator.TerminatorKind.{TerminatorKind}
-use Rattle.mir_ir.specs.declared.terminator.TerminatorKind.TheVariants.{Goto, If, Call, Return, Panic}
+use Rattle.mir_ir.specs.declared.terminator.TerminatorKind.TheVariants.{Goto, If, Switch, Call, Return, Panic}
 use Rattle.mir_ir.specs.declared.body.Block.{Block}
 use Rattle.mir_ir.specs.declared.body.Body.{Body}
 use Rattle.mir_ir.specs.declared.body.Head.{Head}
@@ -14,10 +15,10 @@ use Rattle.mir_ir.specs.declared.body.Point.{Point}
 use Rattle.mir_ir.specs.Body.{block_in}
 use Rattle.mir_ir.specs.Callees.{contract_at}
 use Rattle.mir_ir.specs.Layout.{among}
-use Rattle.prophecy_logic.specs.Graph.{Setting, start_of, behind, IsBefore, IsAtEnd, Within, by_statement, by_end, Ends, goto, branch, call, return, panic, Arrives, plain, first, again}
+use Rattle.prophecy_logic.specs.Graph.{Setting, start_of, behind, IsBefore, IsAtEnd, Within, by_statement, by_end, Ends, goto, branch, switch, call, return, panic, Sides, no_side, last_side, one_side, Arrives, plain, first, again}
 use Rattle.prophecy_logic.specs.Loop.{head_commands}
 use Rattle.prophecy_logic.specs.Row.{goals_of, commands_of}
-use Rattle.prophecy_logic.specs.Walk.{goals_at_return, goals_at_panic, where_true, where_false, goals_at_entry, goals_after_turn, goals_of_call, call_commands, Walk, stop, row, fork}
+use Rattle.prophecy_logic.specs.Walk.{goals_at_return, goals_at_panic, where_true, where_false, where_variant, goals_at_entry, goals_after_turn, goals_of_call, call_commands, Walk, stop, row, fork}
 
 pub some_same : {A : Type 0} {a b : A} → Some a ≡ Some b → a ≡ b
 some_same e = cc
@@ -70,6 +71,7 @@ to_end {w} {heads} {p} {v} (by_end end' at e) end here = subst (λ (t : Terminat
 abbrev pub EndsBy : Setting → List Label → Terminator → TerminatorKind → Walk → Type 0
 EndsBy w heads end (Goto l) v = Arrives w heads l v
 EndsBy w heads end (If o on_true on_false) v = (a : Walk) × Arrives w heads on_true a × (b : Walk) × Arrives w heads on_false b × (v ≡ fork (row [] (where_true w.body o) a) (row [] (where_false w.body o) b))
+EndsBy w heads end (Switch p ls) v = Sides w heads p 0 ls v
 EndsBy w heads end (Call p callee types args l) v = (u : Walk) × Arrives w heads l u × (d : Contract) × (t : Ty) × (contract_at w.contracts callee ≡ Some d) × (slice_get w.body.locals p.local ≡ Some t)
     × (v ≡ row (goals_of_call w.body d end.span args) (call_commands w.body d p.local t args) u)
 EndsBy w heads end Return v = v ≡ row (goals_at_return w.body w.contract) [] stop
@@ -78,12 +80,24 @@ EndsBy w heads end (Panic cause) v = v ≡ row (goals_at_panic end.span) [] stop
 at_end : {w : Setting} {heads : List Label} {end : Terminator} {v : Walk} → Ends w heads end v → EndsBy w heads end end.kind v
 at_end {w} {heads} {end} {v} (goto l e a) = subst (λ k. EndsBy w heads end k v) (sym e) a
 at_end {w} {heads} {end} {v} (branch {u = a} {v = b} o on_true on_false e to_a to_b) = subst (λ k. EndsBy w heads end k v) (sym e) (a, to_a, b, to_b, refl)
+at_end {w} {heads} {end} {v} (switch p ls e s) = subst (λ k. EndsBy w heads end k v) (sym e) s
 at_end {w} {heads} {end} {v} (call {v = u} p callee types args l d t e is_d is_t a) = subst (λ k. EndsBy w heads end k v) (sym e) (u, a, d, t, is_d, is_t, refl)
 at_end {w} {heads} {end} {v} (return e) = subst (λ k. EndsBy w heads end k v) (sym e) refl
 at_end {w} {heads} {end} {v} (panic cause e) = subst (λ k. EndsBy w heads end k v) (sym e) refl
 
 pub ends_by : {w : Setting} {heads : List Label} {end : Terminator} {v : Walk} → Ends w heads end v → (kind : TerminatorKind) → end.kind ≡ kind → EndsBy w heads end kind v
 ends_by {w} {heads} {end} {v} ends kind e = subst (λ k. EndsBy w heads end k v) e (at_end ends)
+
+-- what a walk is from a switch on, for the variants from k on, by the labels
+abbrev pub SidesBy : Setting → List Label → Place → ℕ → List Label → Walk → Type 0
+SidesBy w heads p k [] v = v ≡ stop
+SidesBy w heads p k (l ∷ []) v = (u : Walk) × Arrives w heads l u × (v ≡ row [] (where_variant w.body w.decls p k) u)
+SidesBy w heads p k (l ∷ m ∷ ms) v = (u : Walk) × Arrives w heads l u × (x : Walk) × Sides w heads p (k + 1) (m ∷ ms) x × (v ≡ fork (row [] (where_variant w.body w.decls p k) u) x)
+
+pub sides_by : {w : Setting} {heads : List Label} {p : Place} {k : ℕ} {ls : List Label} {v : Walk} → Sides w heads p k ls v → SidesBy w heads p k ls v
+sides_by no_side = refl
+sides_by (last_side {u = u} a) = (u, a, refl)
+sides_by (one_side {u = u} {v = x} a s) = (u, a, x, s, refl)
 
 -- ---- arrivals
 

@@ -13,7 +13,7 @@ use Rattle.mir_ir.specs.declared.place.Place.{Place}
 use Rattle.mir_ir.specs.declared.statement.Statement.{Statement}
 use Rattle.mir_ir.specs.declared.terminator.Callee.{Callee}
 use Rattle.mir_ir.specs.declared.terminator.Terminator.{Terminator}
-use Rattle.mir_ir.specs.declared.terminator.TerminatorKind.TheVariants.{Goto, If, Call, Return, Panic}
+use Rattle.mir_ir.specs.declared.terminator.TerminatorKind.TheVariants.{Goto, If, Switch, Call, Return, Panic}
 use Rattle.mir_ir.specs.declared.body.Block.{Block}
 use Rattle.mir_ir.specs.declared.body.Body.{Body}
 use Rattle.mir_ir.specs.declared.body.Contracts.{Contracts}
@@ -27,10 +27,10 @@ use Rattle.mir_ir.specs.Layout.{among}
 use Rattle.prophecy_logic.specs.declared.goal.Goal.{Goal}
 use Rattle.prophecy_logic.specs.Loop.{head_commands}
 use Rattle.prophecy_logic.specs.Row.{goals_of, commands_of}
-use Rattle.prophecy_logic.specs.Walk.{goals_at_return, goals_at_panic, where_true, where_false, goals_at_entry, goals_after_turn, goals_of_call, call_commands, entry_commands, Walk, stop, row, fork, owed}
+use Rattle.prophecy_logic.specs.Walk.{goals_at_return, goals_at_panic, where_true, where_false, where_variant, goals_at_entry, goals_after_turn, goals_of_call, call_commands, entry_commands, Walk, stop, row, fork, owed}
 
 -- what the walk of a body looks up: the contracts of all functions, its own, what may be gone where, which references end where, and the
--- declared types. So far no row asks for the last two
+-- declared types. So far no row asks which references end
 pub record Setting : Type 0 where
   pub body : Body
   pub contracts : Contracts
@@ -76,11 +76,19 @@ mutual
     goto : {heads : List Label} {end : Terminator} {v : Walk} (l : Label) → end.kind ≡ Goto l → Arrives w heads l v → Ends w heads end v
     branch : {heads : List Label} {end : Terminator} {u v : Walk} (o : Operand) (yes no : Label) → end.kind ≡ If o yes no → Arrives w heads yes u → Arrives w heads no v
         → Ends w heads end (fork (row [] (where_true w.body o) u) (row [] (where_false w.body o) v))
+    switch : {heads : List Label} {end : Terminator} {v : Walk} (p : Place) (ls : List Label) → end.kind ≡ Switch p ls → Sides w heads p 0 ls v → Ends w heads end v
     call : {heads : List Label} {end : Terminator} {v : Walk} (p : Place) (callee : Callee) (types : List Ty) (args : List Operand) (l : Label) (d : Contract) (t : Ty)
         → end.kind ≡ Call p callee types args l → contract_at w.contracts callee ≡ Some d → slice_get w.body.locals p.local ≡ Some t → Arrives w heads l v
         → Ends w heads end (row (goals_of_call w.body d end.span args) (call_commands w.body d p.local t args) v)
     return : {heads : List Label} {end : Terminator} → end.kind ≡ Return → Ends w heads end (row (goals_at_return w.body w.contract) [] stop)
     panic : {heads : List Label} {end : Terminator} (cause : Cause) → end.kind ≡ Panic cause → Ends w heads end (row (goals_at_panic end.span) [] stop)
+
+  -- from a switch on, for the variants from k on; where there is none, the path ends
+  pub data Sides (w : Setting) : List Label → Place → ℕ → List Label → Walk → Type 0 where
+    no_side : {heads : List Label} {p : Place} {k : ℕ} → Sides w heads p k [] stop
+    last_side : {heads : List Label} {p : Place} {k : ℕ} {l : Label} {u : Walk} → Arrives w heads l u → Sides w heads p k (l ∷ []) (row [] (where_variant w.body w.decls p k) u)
+    one_side : {heads : List Label} {p : Place} {k : ℕ} {l m : Label} {ms : List Label} {u v : Walk} → Arrives w heads l u → Sides w heads p (k + 1) (m ∷ ms) v
+        → Sides w heads p k (l ∷ m ∷ ms) (fork (row [] (where_variant w.body w.decls p k) u) v)
 
   -- from the arrival at a block on
   pub data Arrives (w : Setting) : List Label → Label → Walk → Type 0 where

@@ -1,6 +1,6 @@
 -- Prefixes of a body's paths: each runs from the entry along edges, passes a loop head at most once, and may end with a second arrival at
 -- a head. The goals of a body are those that are met where a prefix ends, each made from the prefix's end backwards.
-use Rattle.std.specs.Prelude.{◌≡◌, true, false, List, [], ◌∷◌, ◌++◌, Contains, Some, None, slice_get}
+use Rattle.std.specs.Prelude.{◌≡◌, ℕ, true, false, List, [], ◌∷◌, ◌++◌, Contains, Some, None, slice_get}
 use Rattle.text_core.specs.declared.refusal.Cause.{Cause}
 use Rattle.logic_term.specs.declared.kinds.Label.{Label}
 use Rattle.logic_term.specs.declared.obligation.Contract.{Contract}
@@ -10,7 +10,7 @@ use Rattle.mir_ir.specs.declared.place.Place.{Place}
 use Rattle.mir_ir.specs.declared.statement.Statement.{Statement}
 use Rattle.mir_ir.specs.declared.terminator.Callee.{Callee}
 use Rattle.mir_ir.specs.declared.terminator.Terminator.{Terminator}
-use Rattle.mir_ir.specs.declared.terminator.TerminatorKind.TheVariants.{Goto, If, Call, Return, Panic}
+use Rattle.mir_ir.specs.declared.terminator.TerminatorKind.TheVariants.{Goto, If, Switch, Call, Return, Panic}
 use Rattle.mir_ir.specs.declared.body.Block.{Block}
 use Rattle.mir_ir.specs.declared.body.Head.{Head}
 use Rattle.mir_ir.specs.declared.body.Point.{Point}
@@ -22,7 +22,7 @@ use Rattle.prophecy_logic.specs.declared.goal.Goal.{Goal}
 use Rattle.prophecy_logic.specs.Graph.{Setting, start_of, behind, IsBefore, IsAtEnd, goals_of_walk}
 use Rattle.prophecy_logic.specs.Loop.{head_commands}
 use Rattle.prophecy_logic.specs.Row.{goals_of, commands_of}
-use Rattle.prophecy_logic.specs.Walk.{Walk, goal_before, goals_at_return, goals_at_panic, where_true, where_false, goals_at_entry, goals_after_turn, goals_of_call, call_commands, entry_commands}
+use Rattle.prophecy_logic.specs.Walk.{Walk, goal_before, goals_at_return, goals_at_panic, where_true, where_false, where_variant, goals_at_entry, goals_after_turn, goals_of_call, call_commands, entry_commands}
 
 -- where a prefix ends: at the arrival at a block, or at a point within one
 pub data At : Type 0 where
@@ -41,6 +41,8 @@ pub data Prefix (w : Setting) : List Label → At → List Command → Type 0 wh
       → Prefix w heads (arrival yes) (cs ++ where_true w.body o)
   to_false_side : {heads : List Label} {p : Point} {cs : List Command} (end : Terminator) (o : Operand) (yes no : Label) → Prefix w heads (within p) cs → IsAtEnd w.body p end → end.kind ≡ If o yes no
       → Prefix w heads (arrival no) (cs ++ where_false w.body o)
+  to_variant : {heads : List Label} {p : Point} {cs : List Command} (end : Terminator) (q : Place) (ls : List Label) (k : ℕ) (l : Label) → Prefix w heads (within p) cs → IsAtEnd w.body p end → end.kind ≡ Switch q ls → slice_get ls k ≡ Some l
+      → Prefix w heads (arrival l) (cs ++ where_variant w.body w.decls q k)
   over_call : {heads : List Label} {p : Point} {cs : List Command} (end : Terminator) (q : Place) (callee : Callee) (types : List Ty) (args : List Operand) (l : Label) (d : Contract) (t : Ty)
       → Prefix w heads (within p) cs → IsAtEnd w.body p end → end.kind ≡ Call q callee types args l → contract_at w.contracts callee ≡ Some d → slice_get w.body.locals q.local ≡ Some t
       → Prefix w heads (arrival l) (cs ++ call_commands w.body d q.local t args)

@@ -19,7 +19,7 @@ use Rattle.mir_ir.specs.declared.place.Lit.TheVariants as literal
 use Rattle.mir_ir.specs.declared.place.Operand.{Operand}
 use Rattle.mir_ir.specs.declared.place.Operand.TheVariants.{Copy, Move, Const}
 use Rattle.mir_ir.specs.declared.statement.Rvalue.{Rvalue}
-use Rattle.mir_ir.specs.declared.statement.Rvalue.TheVariants.{Use, Binary, Neg, Not, Widen, Make}
+use Rattle.mir_ir.specs.declared.statement.Rvalue.TheVariants.{Use, Binary, Neg, Not, Widen, Make, BoxNew}
 use Rattle.mir_ir.specs.declared.statement.StatementKind.{StatementKind}
 use Rattle.mir_ir.specs.declared.statement.StatementKind.TheVariants.{Assign, Dead}
 use Rattle.mir_ir.specs.declared.body.Body.{Body}
@@ -37,6 +37,14 @@ use Rattle.prophecy_logic.specs.declared.operation.Compared.TheVariants.{Truths,
 -- the name of a new value; no local and no contract has it
 unfoldable pub value_name : Name
 value_name = record { 0 = 2 ^ 63 + 2 ^ 62 }
+
+-- names for this many new values more, one for each type
+unfoldable pub part_name : ℕ → Name
+part_name n = record { 0 = 2 ^ 63 + 2 ^ 62 + 1 + n }
+
+abbrev pub part_names : ℕ → List Ty → List Name
+part_names n [] = []
+part_names n (t ∷ ts) = part_name n ∷ part_names (n + 1) ts
 
 abbrev pub or_value_name : Option Name → Name
 or_value_name None = value_name
@@ -184,6 +192,8 @@ of_rvalue b k x (Neg o) = of_negation b k x o
 of_rvalue b k x (Not o) = Set (name_of b x) (not (operand_term b o)) ∷ []
 of_rvalue b k x (Widen o wide) = of_widening b wide x o
 of_rvalue b k x (Make c os) = Set (name_of b x) (apply (made c) (terms_of (map (operand_term b) os))) ∷ []
+-- a box is what it holds
+of_rvalue b k x (BoxNew o) = Set (name_of b x) (operand_term b o) ∷ []
 
 abbrev pub commands_of : Body → StatementKind → List Command
 commands_of b (Assign p r) = of_rvalue b (kind_in (slice_get b.locals p.local)) p.local r

@@ -29,7 +29,7 @@ pub record State : Type 0 where
 
 -- the first number of the names that a walk makes, past all others: of sources, of locals, and of new values
 unfoldable pub first_new : ℕ
-first_new = 2 ^ 63 + 2 ^ 62 + 1
+first_new = 2 ^ 63 + 2 ^ 62 + 2 ^ 32 + 1
 
 -- at the beginning each name stands for itself
 abbrev pub start : State

@@ -1,24 +1,32 @@
 -- Rows of the ends of blocks and of arrivals at heads; and what is left of a walk, as a tree of rows. The goals of a tree are those that
 -- the walk meets, depth first, each made from the goal backwards to the point at which the walk begins.
-use Rattle.std.specs.Prelude.{ℕ, false, ◌+◌, List, [], ◌∷◌, ◌++◌, length, map, drop}
+use Rattle.std.specs.Prelude.{ℕ, false, ◌+◌, List, [], ◌∷◌, ◌++◌, length, map, drop, Option, Some, None, slice_get}
 use Rattle.text_core.specs.declared.name.Name.{Name}
 use Rattle.text_core.specs.declared.span.Span.{Span}
 use Rattle.text_core.specs.declared.refusal.Kind.{Kind}
 use Rattle.text_core.specs.declared.refusal.Kind.TheVariants.{Unreachable, Ensures, Requires, InvEntry, InvKept}
+use Rattle.logic_term.specs.declared.declaration.AdtDecl.{AdtDecl}
+use Rattle.logic_term.specs.declared.declaration.VariantDecl.{VariantDecl}
+use Rattle.logic_term.specs.declared.kinds.Ctor.{Ctor}
+use Rattle.logic_term.specs.declared.kinds.Ctor.TheVariants.{Variant}
 use Rattle.logic_term.specs.declared.obligation.Contract.{Contract}
 use Rattle.logic_term.specs.declared.subst.Replacement.{Replacement}
 use Rattle.logic_term.specs.Subst.{with_terms, replaced}
-use Rattle.logic_term.specs.Term.{Term, var, truth}
+use Rattle.logic_term.specs.Sort.{instance}
+use Rattle.logic_term.specs.Term.{made, Term, var, truth, apply, is_equal}
+use Rattle.logic_term.specs.TermView.{terms_of}
+use Rattle.logic_term.specs.Theory.{variant_of}
 use Rattle.logic_term.specs.Term as terms
-use Rattle.logic_term.specs.Ty.{Ty}
+use Rattle.logic_term.specs.Ty.{Ty, Tys, adt}
 use Rattle.mir_ir.specs.declared.place.Operand.{Operand}
+use Rattle.mir_ir.specs.declared.place.Place.{Place}
 use Rattle.mir_ir.specs.declared.body.Body.{Body}
 use Rattle.mir_ir.specs.declared.body.Head.{Head}
 use Rattle.prophecy_logic.specs.declared.command.Command.{Command}
 use Rattle.prophecy_logic.specs.declared.command.Command.TheVariants.{Set, Fresh, Assume}
 use Rattle.prophecy_logic.specs.declared.goal.Goal.{Goal}
 use Rattle.prophecy_logic.specs.Command.{before_all, assumed}
-use Rattle.prophecy_logic.specs.Row.{value_name, name_of, operand_term}
+use Rattle.prophecy_logic.specs.Row.{value_name, part_names, name_of, operand_term}
 
 -- ---- goals at other points
 
@@ -112,6 +120,29 @@ stored b n (x ∷ xs) = Set (name_of b n) (var x) ∷ stored b (n + 1) xs
 
 abbrev pub entry_commands : Body → Contract → List Command
 entry_commands b c = parameters c.params (drop 1 b.locals) ++ assumed c.pre ++ stored b 1 c.params
+
+-- ---- switches
+
+-- the types of the fields of a variant, at types for the parameters of its type
+abbrev pub types_at : Tys → Option VariantDecl → List Ty
+types_at ts None = []
+types_at ts (Some v) = map (λ f. instance ts f.ty) v.fields
+
+-- what is made of new values of these types
+abbrev pub of_parts : Ctor → List Ty → Term
+of_parts c tys = apply (made c) (terms_of (map var (part_names 0 tys)))
+
+-- the local is made of some values of these types
+abbrev pub of_variant : Body → ℕ → Ctor → List Ty → List Command
+of_variant b x c tys = parameters (part_names 0 tys) tys ++ Assume (is_equal (var (name_of b x)) (of_parts c tys)) ∷ Set (name_of b x) (of_parts c tys) ∷ []
+
+-- where a local of the type is of variant k
+abbrev pub variant_commands : Body → List AdtDecl → ℕ → ℕ → Option Ty → List Command
+variant_commands b ds x k (Some (adt d rs ts)) = of_variant b x (Variant d k) (types_at ts (variant_of (slice_get ds d.0) k))
+variant_commands b ds x k _ = []
+
+abbrev pub where_variant : Body → List AdtDecl → Place → ℕ → List Command
+where_variant b ds p k = variant_commands b ds p.local k (slice_get b.locals p.local)
 
 -- ---- trees of rows
 

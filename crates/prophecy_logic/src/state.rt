@@ -35,7 +35,7 @@ impl Model for State {
 fn first_new() -> u64
     ensures { result ≡ first_new }
 {
-    (1 << 63) + (1 << 62) + 1
+    (1 << 63) + (1 << 62) + (1 << 32) + 1
 }
 
 /// The terms, shared.

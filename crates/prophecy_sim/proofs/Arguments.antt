@@ -7,7 +7,7 @@ use Rattle.logic_term.specs.Value.{Values, no_values, and_value}
 use Rattle.logic_term.proofs.Coincide.{with_same, with_other}
 use Rattle.mir_machine.specs.Tree.{Tree}
 use Rattle.mir_machine.specs.Good.{named}
-use Rattle.prophecy_sim.proofs.Scalars.{Shows, AllShow}
+use Rattle.prophecy_sim.proofs.Owned.{Shows, AllShow}
 
 -- the names are different
 abbrev pub AreApart : List Name → Type 0

@@ -1,5 +1,5 @@
 -- What an assignment leads to: its right side does not panic, and its commands give the place's name the place's value.
-use Rattle.std.proofs.Common.{◌≡◌, ◌∙◌, refl, sym, ap, ap₂, subst, ℕ, ℤ, pos, negsuc, int_div, int_rem, int_lt, int_le, Bool, true, false, not, cond, List, [], ◌∷◌, Some, slice_get, true≢false}
+use Rattle.std.proofs.Common.{◌≡◌, ◌∙◌, refl, sym, ap, ap₂, subst, ℕ, ℤ, pos, negsuc, int_div, int_rem, int_lt, int_le, Bool, true, false, not, cond, List, [], ◌∷◌, map, Some, slice_get, true≢false}
 use Rattle.std.proofs.lemmas.Bool.Decides.{Decides-int_eq}
 use Rattle.std.specs.Option.{option_map}
 use Rattle.std.specs.Ordering.{int_eq}
@@ -18,8 +18,10 @@ use Rattle.source_kinds.proofs.Widening.{fits_wider}
 use Rattle.logic_term.specs.Sort.{Declarations, HasSort, instance, of_int, of_bool}
 use Rattle.logic_term.specs.Theory.{Theory, declared}
 use Rattle.logic_term.specs.Ty.{Ty, int, bool, no_tys}
-use Rattle.logic_term.specs.Value.{Value, Number, Flag, no_values, integer_of, flag_of}
-use Rattle.logic_term.specs.Term.{made, Term, apply, no_terms, negative, calculate, is_equal}
+use Rattle.logic_term.specs.Laws.{HaveExactly}
+use Rattle.logic_term.specs.Value.{Value, Number, Flag, integer_of, flag_of}
+use Rattle.logic_term.specs.Term.{made, Term, Terms, apply, negative, calculate, is_equal}
+use Rattle.logic_term.specs.TermView.{terms_of}
 use Rattle.logic_term.specs.Term.{not as not_term}
 use Rattle.logic_term.specs.Meaning.{Sure, Decided, Structure, Env, with_value, Means, calculated, compared, structure_of}
 use Rattle.logic_term.proofs.Coincide.{with_same, with_other}
@@ -30,15 +32,16 @@ use Rattle.mir_ir.specs.declared.place.Lit.TheVariants as lit
 use Rattle.mir_ir.specs.declared.place.Operand.{Operand}
 use Rattle.mir_ir.specs.declared.place.Operand.TheVariants.{Copy, Move, Const}
 use Rattle.mir_ir.specs.declared.statement.Rvalue.{Rvalue}
-use Rattle.mir_ir.specs.declared.statement.Rvalue.TheVariants.{Use, Binary, Neg, Not, Widen, Make}
+use Rattle.mir_ir.specs.declared.statement.Rvalue.TheVariants.{Use, Binary, Neg, Not, Widen, Make, BoxNew}
 use Rattle.mir_ir.specs.declared.statement.StatementKind.TheVariants.{Assign}
+use Rattle.mir_ir.specs.declared.body.Bodies.{Bodies}
 use Rattle.mir_ir.specs.declared.body.Body.{Body}
 use Rattle.mir_ir.specs.Body.{whole, place_ty, kind_of, kind_in}
 use Rattle.mir_ir.specs.WellFormed.{PlaceHas, OperandHas, operation_ty, IsEquality, OperationHas, RvalueHas, Locals}
 use Rattle.mir_ir.proofs.Taking.{CanTake, CanEvaluate}
 use Rattle.mir_machine.specs.Step.{same_truth}
 use Rattle.prophecy_sim.proofs.Operations.{operation_value, applied, IsInRange, InKind, opposite}
-use Rattle.prophecy_sim.proofs.Operands.{operand_value, rvalue_value, RvalueIsInRange, operand_means, new_value, can_before}
+use Rattle.prophecy_sim.proofs.Operands.{operand_value, operand_values, rvalue_value, RvalueIsInRange, operand_means, new_value, can_before}
 use Rattle.prophecy_logic.specs.declared.command.Command.TheVariants.{Set}
 use Rattle.prophecy_logic.specs.declared.operation.Compared.{Compared as Kinds}
 use Rattle.prophecy_logic.specs.declared.operation.Compared.TheVariants.{Truths, Integers}
@@ -183,11 +186,18 @@ module _ (Θ : Theory) (b : Body) (not_new : (x : ℕ) (t : Ty) → slice_get b.
     use_assigned : (o : Operand) → Assigned ρ p (Use o)
     use_assigned o = set_assigned (Use o) (operand_term b o) tt refl (operand_means W b ρ o)
 
-    -- what has no parts
-    make_assigned : (c : Ctor) (os : List Operand) → os ≡ [] → Assigned ρ p (Make c os)
-    make_assigned c os no_parts =
-        subst (λ qs. Assigned ρ p (Make c qs)) (sym no_parts)
-        (set_assigned (Make c []) (apply (made c) no_terms) tt refl (made_exactly W c no_terms ρ no_values (tt {0})))
+    -- a box is what it holds
+    box_assigned : (o : Operand) → Assigned ρ p (BoxNew o)
+    box_assigned o = set_assigned (BoxNew o) (operand_term b o) tt refl (operand_means W b ρ o)
+
+    parts_exactly : (os : List Operand) → HaveExactly W (terms_of (map (operand_term b) os)) ρ (operand_values b ρ os)
+    parts_exactly [] = tt
+    parts_exactly (o ∷ os) = (operand_means W b ρ o, parts_exactly os)
+
+    make_assigned : (c : Ctor) (os : List Operand) → Assigned ρ p (Make c os)
+    make_assigned c os =
+        let ts : Terms = terms_of (map (operand_term b) os) in
+        set_assigned (Make c os) (apply (made c) ts) tt refl (made_exactly W c ts ρ (operand_values b ρ os) (parts_exactly os))
 
     not_assigned : (o : Operand) → Has bool (operand_value b ρ o) → Assigned ρ p (Not o)
     not_assigned o sort =
@@ -388,13 +398,14 @@ module _ (Θ : Theory) (b : Body) (not_new : (x : ℕ) (t : Ty) → slice_get b.
     -- ---- right sides
 
     -- what can be taken has a value of its type
-    pub assigned : (set : Locals) (r : Rvalue) (ty : Ty) → PlaceHas b p ty → RvalueHas b r ty → CanEvaluate set r →
+    pub assigned : (bodies : Bodies) (set : Locals) (r : Rvalue) (ty : Ty) → PlaceHas b p ty → RvalueHas bodies b r ty → CanEvaluate set r →
         ((o : Operand) (of : Ty) → OperandHas b o of → CanTake set o → HasSort (declared Θ) (operand_value b ρ o) (instance no_tys of)) →
         GoalsHold W ρ (goals_of b span (Assign p r)) → Assigned ρ p r
-    assigned set (Use o) ty place has can sorts goals = use_assigned o
-    assigned set (Binary op o q) ty place has can sorts goals =
+    assigned bodies set (Use o) ty place has can sorts goals = use_assigned o
+    assigned bodies set (Binary op o q) ty place has can sorts goals =
         binary_assigned o q op ty has.0 place has.1 has.2 has.3 (sorts o has.0 has.1 can.0) (sorts q has.0 has.2 (can_before set o q can.1)) goals
-    assigned set (Neg o) ty place has can sorts goals = neg_assigned o ty has.0 place has.3 has.2 (sorts o (int has.0) has.2 can) goals
-    assigned set (Not o) ty place has can sorts goals = not_assigned o (sorts o bool has.0 can)
-    assigned set (Widen o k) ty place has can sorts goals = widen_assigned o has.0 k has.1 has.2 (sorts o (int has.0) has.2 can)
-    assigned set (Make c os) ty place has can sorts goals = make_assigned c os has.1
+    assigned bodies set (Neg o) ty place has can sorts goals = neg_assigned o ty has.0 place has.3 has.2 (sorts o (int has.0) has.2 can) goals
+    assigned bodies set (Not o) ty place has can sorts goals = not_assigned o (sorts o bool has.0 can)
+    assigned bodies set (Widen o k) ty place has can sorts goals = widen_assigned o has.0 k has.1 has.2 (sorts o (int has.0) has.2 can)
+    assigned bodies set (Make c os) ty place has can sorts goals = make_assigned c os
+    assigned bodies set (BoxNew o) ty place has can sorts goals = box_assigned o

@@ -8,6 +8,7 @@ use Rattle.logic_term.specs.declared.obligation.Obligation.{Obligation}
 use Rattle.logic_term.specs.Meaning.{Structure, Env, Holds}
 use Rattle.logic_term.specs.Obligations.{how_many, IsTrueObligation}
 use Rattle.logic_term.specs.Term.{Term}
+use Rattle.logic_term.specs.Sort.{instance}
 use Rattle.logic_term.specs.Ty.{Ty, no_tys}
 use Rattle.logic_term.specs.Value.{Values}
 use Rattle.logic_term.proofs.Alike.{yes_alike}
@@ -34,8 +35,8 @@ use Rattle.prophecy_logic.proofs.Commands.{GoalsHold, goals_moved, then_moves}
 use Rattle.prophecy_logic.proofs.Prefixes.{goals_are_seen_before}
 use Rattle.prophecy_sim.specs.Programs.{HasTrueObligations}
 use Rattle.prophecy_sim.proofs.Lists.{get_append, get_first}
-use Rattle.prophecy_sim.proofs.Setup.{Setup, FunctionOf, S, bodies, declarations, own, walked, local_named, scalar_params}
-use Rattle.prophecy_sim.proofs.Scalars.{Shows, AreShaped, are_shaped, AllShow, all_shown, shaped_sort}
+use Rattle.prophecy_sim.proofs.Setup.{Setup, FunctionOf, S, bodies, declarations, own, walked, local_named, owned_params}
+use Rattle.prophecy_sim.proofs.Owned.{Shows, AllFit, all_fit, AllShow, all_shown, fit_sort}
 use Rattle.prophecy_sim.proofs.Arguments.{argument_shows}
 use Rattle.prophecy_sim.proofs.Operands.{Agree, agree_within}
 use Rattle.prophecy_sim.proofs.Entries.{AreSorted, parameters_move, assumed_move, Stored, stored_move}
@@ -92,7 +93,7 @@ module _ {K : Type 0} (s : Setup K) (f : FunctionOf s) (proved : HasTrueObligati
 
   -- ---- the entry
 
-  module _ (args : List (Tree K)) (count : length args ≡ length param_list) (shaped : AreShaped args param_list) (values : Values) (shows : AllShow args values)
+  module _ (args : List (Tree K)) (count : length args ≡ length param_list) (fit : AllFit (declarations s) args param_list) (values : Values) (shows : AllShow args values)
       (pre : Each (λ t. Holds (S s) t (named c.params values)) c.pre) where
     abbrev ρ₀ : Env
     ρ₀ = named c.params values
@@ -101,8 +102,8 @@ module _ {K : Type 0} (s : Setup K) (f : FunctionOf s) (proved : HasTrueObligati
     sorted i x ty e q =
         let below : i < b.params = omega (arith, slice_get_within c.params i x e, (own s f).speaks.count) in
         let taken : slice_get param_list i ≡ Some ty = taken_is (drop 1 b.locals) b.params i ty q below in
-        let t = shaped i ty taken in
-        shaped_sort (declarations s) ty t.0 (ρ₀ x) (scalar_params s f i ty taken) t.2 (argument_shows c.params args values (own s f).speaks.apart shows i x t.0 e t.1)
+        let t = fit i ty taken in
+        fit_sort (declarations s) (instance no_tys ty) t.0 (ρ₀ x) t.2 (argument_shows c.params args values (own s f).speaks.apart shows i x t.0 e t.1)
       where
         taken_is : (xs : List Ty) (p n : ℕ) (t : Ty) → slice_get xs n ≡ Some t → n < p → slice_get (take p xs) n ≡ Some t
         taken_is [] p n t q l = absurd (cc)
@@ -178,7 +179,7 @@ module _ {K : Type 0} (s : Setup K) (f : FunctionOf s) (proved : HasTrueObligati
   begins ρ args u begun =
       let st : State K = with_call s f args u in
       let of_args : AreOf (declarations s) st no_tys args param_list = typed_args (declarations s) st no_tys args param_list [] begun.typed tt in
-      let shaped = are_shaped of_args in
+      let fit = all_fit (bodies s) (own s f).simple.owns (declarations s) s.declares (own s f).simple.fields (owned_params s f) of_args in
       let pre = subst (λ σ. Each (λ t. Holds (S s) t σ) c.pre) begun.is_env begun.pre in
       subst (λ σ. Standing s f σ st (length u) (stop_of (entered b f.number no_tys args))) (sym begun.is_env)
-      (entry_stands args shaped.0 shaped.1 begun.values (all_shown args param_list shaped.0 shaped.1 (scalar_params s f) begun.reads) pre u of_args)
+      (entry_stands args fit.0 fit.1 begun.values (all_shown (declarations s) args param_list fit.0 fit.1 begun.reads) pre u of_args)

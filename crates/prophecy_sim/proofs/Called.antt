@@ -38,8 +38,8 @@ use Rattle.prophecy_logic.specs.Prefix.{within}
 use Rattle.prophecy_logic.specs.Walk.{seen_before, at_arguments, goals_of_call, call_commands, Walk, met}
 use Rattle.prophecy_logic.proofs.Commands.{GoalsHold, goals_first, goals_rest}
 use Rattle.prophecy_sim.proofs.Lists.{found_block, each_of}
-use Rattle.prophecy_sim.proofs.Setup.{Setup, FunctionOf, move_rows, S, bodies, declarations, own, contract_of, walked, scalar_params, OverParams}
-use Rattle.prophecy_sim.proofs.Scalars.{AreShaped, are_shaped, AllShow, all_read, all_typed}
+use Rattle.prophecy_sim.proofs.Setup.{Setup, FunctionOf, move_rows, S, bodies, declarations, own, contract_of, walked, owned_params, OverParams}
+use Rattle.prophecy_sim.proofs.Owned.{AllFit, all_fit, AllShow, all_read, all_typed}
 use Rattle.prophecy_sim.proofs.Operands.{operand_values, all_taken_before, Agree, agree_moved, took_all_agree, took_all_show}
 use Rattle.prophecy_sim.proofs.Calls.{overlay, overlay_named, AsMany, as_many, as_many_operands, with_terms_mean, all_hold, all_exactly}
 use Rattle.prophecy_sim.proofs.Memories.{AreBehind, Came, Memories, memories_kept}
@@ -134,9 +134,9 @@ module _ {K : Type 0} (s : Setup K) (f : FunctionOf s) (ρ₀ : Env) (fr : Frame
     here_is : (i : ℕ) × (m : Label) × (slice_get b.blocks i ≡ Some (m, st.block))
     here_is = found_block b.blocks g.label st.block st.is_block
 
-    calls_fine : (u : State K) (args : List (Tree K)) → length u ≡ suc frame → Holding s f u frame set → (length args ≡ length param_types) × AreShaped args param_types → Agree b u frame set ρ → AllShow args values →
+    calls_fine : (u : State K) (args : List (Tree K)) → length u ≡ suc frame → Holding s f u frame set → (length args ≡ length param_types) × AllFit (declarations s) args param_types → Agree b u frame set ρ → AllShow args values →
         CallsFine s f ρ₀ u frame g
-    calls_fine u args more held' shaped agreed shows = record {
+    calls_fine u args more held' fit agreed shows = record {
       callee = callee;
       calls = record {
         body = b;
@@ -156,7 +156,7 @@ module _ {K : Type 0} (s : Setup K) (f : FunctionOf s) (ρ₀ : Env) (fr : Frame
       env = called_in;
       args = args;
       begun = record {
-        typed = all_typed (declarations s) (with_call s callee args u) args param_types shaped.0 shaped.1 (scalar_params s callee);
+        typed = all_typed (declarations s) (with_call s callee args u) args param_types fit.0 fit.1;
         values = values;
         reads = all_read false (with_call s callee args u) s.final Plain here 0 args values shows;
         is_env = refl;
@@ -211,4 +211,4 @@ module _ {K : Type 0} (s : Setup K) (f : FunctionOf s) (ρ₀ : Env) (fr : Frame
         let more : length takes.after ≡ suc frame = sym (stops_length takes.after) ∙ ap length takes.stay in
         let shows : AllShow takes.trees values = took_all_show b ρ param_types have can agrees takes.took in
         subst (Quiet Fine) (sym (call-row s.code now takes.after at p target types os l takes.trees callee.number callee.body takes.yields found.1 callee.is_body))
-        (continues.calls takes.after takes.stay takes.elsewhere (calls_fine takes.after takes.trees more takes.held (are_shaped takes.typed) (took_all_agree b ρ agrees takes.took) shows))
+        (continues.calls takes.after takes.stay takes.elsewhere (calls_fine takes.after takes.trees more takes.held (all_fit (bodies s) (own s callee).simple.owns (declarations s) s.declares (own s callee).simple.fields (owned_params s callee) takes.typed) (took_all_agree b ρ agrees takes.took) shows))

@@ -46,10 +46,10 @@ use Rattle.prophecy_logic.specs.Walk.{seen_before, goals_at_return, where_true, 
 use Rattle.prophecy_logic.proofs.Commands.{GoalsHold, goals_moved, goals_first, goals_rest}
 use Rattle.prophecy_sim.specs.Programs.{Calls as CallsBody}
 use Rattle.prophecy_sim.proofs.Lists.{get_first, each_of, decide}
-use Rattle.prophecy_sim.proofs.Setup.{Setup, FunctionOf, move_rows, S, bodies, declarations, own, walked, params_outside, OverAnswer}
-use Rattle.prophecy_sim.proofs.Scalars.{Shows, shows_truth, shaped_typed}
+use Rattle.prophecy_sim.proofs.Setup.{Setup, FunctionOf, move_rows, S, bodies, declarations, own, walked, params_outside, local_fits, OverAnswer}
+use Rattle.prophecy_sim.proofs.Owned.{Shows, shows_truth}
 use Rattle.prophecy_sim.proofs.Operands.{operand_value, operand_means, taken_before, Agree, agree_within, agree_moved, took_shows, took_agrees}
-use Rattle.prophecy_sim.proofs.Memories.{among_first, among_second, Came, came_on, Reached}
+use Rattle.prophecy_sim.proofs.Memories.{among_first, among_second, KeepsOutside, Came, came_on, Reached}
 use Rattle.prophecy_sim.proofs.Standing.{point_of, Standing, arrived, each_holds}
 use Rattle.prophecy_sim.proofs.Stands.{Holding}
 use Rattle.prophecy_sim.proofs.Waits.{first_ty, IsAnswer, Waiting}
@@ -119,17 +119,21 @@ module _ {K : Type 0} (s : Setup K) where
 
       -- ---- edges
 
-      -- the ways on from the block, where no more is initialised than at its end
+      -- in the environment the names of locals have the values that they had
+      abbrev pub SameLocals : Env → Type 0
+      SameLocals σ = (x : ℕ) (ty : Ty) → slice_get b.locals x ≡ Some ty → σ (name_of b x) ≡ ρ (name_of b x)
+
+      -- the ways on from the block, where no more is initialised than at its end, and locals are as they were
       abbrev pub Ways : List Label → Type 0
-      Ways heads = (l : Label) → among l (targets st.block.end.kind) ≡ true → Within_set (initialised l 0) end_set → Reached s f ρ₀ (initialised l 0) ρ heads l
+      Ways heads = (σ : Env) → SameLocals σ → (l : Label) → among l (targets st.block.end.kind) ≡ true → Within_set (initialised l 0) end_set → Reached s f ρ₀ (initialised l 0) σ heads l
 
       -- the frame goes on at the block, in this state
-      pub goes_on : {heads : List Label} {w : Walk} (l : Label) (set : Locals) (v : State K) → Arrives (walked s f) heads l w → Came s f ρ₀ (walked s f) heads (arrival l) ρ →
-          GoalsHold (S s) ρ (met w) → Holding s f v n set → Agree b v n set ρ → Within_set (initialised l 0) set →
-          Reached s f ρ₀ (initialised l 0) ρ heads l → Standing s f ρ₀ v n (at_start l g)
-      goes_on l set v arrives came hold held agrees w way =
+      pub goes_on : {heads : List Label} {w : Walk} (σ : Env) → KeepsOutside s f ρ₀ σ → (l : Label) (set : Locals) (v : State K) → Arrives (walked s f) heads l w → Came s f ρ₀ (walked s f) heads (arrival l) σ →
+          GoalsHold (S s) σ (met w) → Holding s f v n set → Agree b v n set σ → Within_set (initialised l 0) set →
+          Reached s f ρ₀ (initialised l 0) σ heads l → Standing s f ρ₀ v n (at_start l g)
+      goes_on σ keeps l set v arrives came hold held agrees w way =
           arrived s f ρ₀ arrives v n g st.function st.types
-          (record { held = held_within (declarations s) b no_tys n inside (initialised l 0) set w held; env = ρ; agrees = agree_within b (initialised l 0) set v n ρ w agrees; keeps = st.keeps; came = came })
+          (record { held = held_within (declarations s) b no_tys n inside (initialised l 0) set w held; env = σ; agrees = agree_within b (initialised l 0) set v n σ w agrees; keeps = keeps; came = came })
           way hold
 
       module _ (Fine : Outcome K → Type 0) (continues : Continues Fine fr fs) where
@@ -169,16 +173,16 @@ module _ {K : Type 0} (s : Setup K) where
             of_truth now' true held' agreed is =
                 let known : Holds (S s) (operand_term b o) ρ = (yes_flag (Means (S s) (operand_term b o) ρ) true (subst (λ w. Exactly (Means (S s) (operand_term b o) ρ) w) is exactly)).1 refl in
                 let moves : MovesAll (S s) (where_true b o) ρ ρ = more (by_assume known) none in
-                goes_on l (taken o end_set) now' to_l (came_on s f ρ₀ came (where_true b o) (to_true_side st.block.end o l r came.prefix at_end kind) moves)
+                goes_on ρ st.keeps l (taken o end_set) now' to_l (came_on s f ρ₀ came (where_true b o) (to_true_side st.block.end o l r came.prefix at_end kind) moves)
                 (goals_moved (S s) (met u) moves first_goals) held' agreed carries.0
-                (ways l (subst (λ x. among l (targets x) ≡ true) (sym kind) (among_first l (r ∷ []))) (to_end l carries.0))
+                (ways ρ (λ x ty e. refl) l (subst (λ x. among l (targets x) ≡ true) (sym kind) (among_first l (r ∷ []))) (to_end l carries.0))
             of_truth now' false held' agreed is =
                 let denied : Holds (S s) (operand_term b o) ρ → ⊥ = λ h. not_true ((yes_flag (Means (S s) (operand_term b o) ρ) false (subst (λ w. Exactly (Means (S s) (operand_term b o) ρ) w) is exactly)).0 h) in
                 let known : Holds (S s) (terms.not (operand_term b o)) ρ = (holds_not (S s) (operand_term b o) ρ).1 denied in
                 let moves : MovesAll (S s) (where_false b o) ρ ρ = more (by_assume known) none in
-                goes_on r (taken o end_set) now' to_r (came_on s f ρ₀ came (where_false b o) (to_false_side st.block.end o l r came.prefix at_end kind) moves)
+                goes_on ρ st.keeps r (taken o end_set) now' to_r (came_on s f ρ₀ came (where_false b o) (to_false_side st.block.end o l r came.prefix at_end kind) moves)
                 (goals_moved (S s) (met v) moves rest_goals) held' agreed carries.1
-                (ways r (subst (λ x. among r (targets x) ≡ true) (sym kind) (among_second l r)) (to_end r carries.1))
+                (ways ρ (λ x ty e. refl) r (subst (λ x. among r (targets x) ≡ true) (sym kind) (among_second l r)) (to_end r carries.1))
 
             by_truth : Shape bool takes.tree → Quiet Fine (end_step s.code now at (If o l r))
             by_truth (there, (c, is)) =
@@ -219,7 +223,7 @@ module _ {K : Type 0} (s : Setup K) where
             subst (Quiet Fine) (sym (return-row s.code fr fs at t (ap (λ i. tree_at now (local_at i 0)) is_n ∙ is_t) there))
             (continues.answers t (record {
               typed = subst (λ ty. Typed (declarations s) fs t ty []) (sym (ap (instance no_tys) (first_ty b.locals answer.0 answer.1)))
-                  (shaped_typed (declarations s) fs answer.0 t ((own s f).simple.scalars 0 answer.0 answer.1) (has_shape typed));
+                  (local_fits s f 0 answer.0 t answer.1 typed fs);
               value = ρ (name_of b 0);
               reads = shows false fs s.final Plain here;
               posts = posts_hold (own s f).contract.post

@@ -1,94 +1,32 @@
 -- A function is good where all obligations of the functions that it may reach are true.
-use Rattle.std.proofs.Common.{◌≡◌, ◌∙◌, refl, sym, ap₂, subst, ℕ, suc, false, List, [], ◌∷◌, ◌++◌, length, take, drop, Some, slice_get, arith}
+use Rattle.std.proofs.Common.{◌≡◌, ◌∙◌, refl, sym, subst, ℕ, false, List, [], ◌∷◌, length, take, drop, Some, slice_get, arith}
 use Rattle.std.proofs.lemmas.Option.{same_Some}
-use Rattle.source_kinds.specs.declared.kinds.IntKind.{IntKind}
 use Rattle.logic_term.specs.declared.obligation.Contract.{Contract}
 use Rattle.logic_term.specs.Meaning.{Env}
-use Rattle.logic_term.specs.Sort.{Declarations, instance, instances}
-use Rattle.logic_term.specs.Ty.{Ty, Tys, int, bool, tuple, no_tys, and_ty, unit_ty}
-use Rattle.logic_term.specs.TyView.{tys_of}
+use Rattle.logic_term.specs.Sort.{instance}
+use Rattle.logic_term.specs.Ty.{Ty, Tys, no_tys}
 use Rattle.logic_term.specs.Value.{Values, nothing}
 use Rattle.mir_ir.specs.declared.body.Body.{Body}
 use Rattle.mir_ir.specs.Body.{answer_ty}
-use Rattle.mir_machine.specs.Tree.{Tree, Trees}
+use Rattle.mir_machine.specs.Tree.{Tree}
 use Rattle.mir_machine.specs.Frame.{State}
 use Rattle.mir_machine.specs.Reads.{Plain}
 use Rattle.mir_machine.specs.Step.{Outcome, Running, Returned, Panicked, Stuck, after, outside}
-use Rattle.mir_machine.specs.Typed.{Met, Typed, AreTyped, is_int, is_truth, is_tuple, is_adt, is_closure, is_boxed, is_shared, is_unique, none_typed, more_typed}
+use Rattle.mir_machine.specs.Typed.{Met, Typed}
 use Rattle.mir_machine.specs.Good.{IsProper, IsFine, MeetsRequires, MeetsEnsures, Supply, named, called, here}
 use Rattle.mir_machine.specs.Code.{code_of}
 use Rattle.mir_machine.specs.Invariant.{from_outside}
 use Rattle.mir_machine.proofs.NeverStuck.{never_stuck, no_types_for_none}
 use Rattle.mir_machine.proofs.Stacks.{typed_args}
-use Rattle.mir_machine.proofs.TypedTrees.{typed_shape}
-use Rattle.prophecy_sim.specs.Programs.{IsScalar, itself, AreProvedFrom, TrueObligationsMakeGood}
+use Rattle.prophecy_sim.specs.Programs.{itself, AreProvedFrom, TrueObligationsMakeGood}
 use Rattle.prophecy_sim.specs.declared.node.Node.TheVariants.{Function}
 use Rattle.prophecy_sim.proofs.Lists.{get_first}
-use Rattle.prophecy_sim.proofs.Setup.{Setup, FunctionOf, program as program_of, bodies, sound, declarations, own, scalar_params}
-use Rattle.prophecy_sim.proofs.Scalars.{AreShaped, are_shaped, AllShow, all_values, all_read, shaped_shows}
+use Rattle.prophecy_sim.proofs.Setup.{Setup, FunctionOf, program as program_of, bodies, sound, declarations, own, owned_params, local_fits}
+use Rattle.prophecy_sim.proofs.Owned.{AllFit, all_fit, AllShow, all_values, all_read, fit_shows, none_met_all, owned_list}
 use Rattle.prophecy_sim.proofs.Waits.{first_ty, IsAnswer}
 use Rattle.prophecy_sim.proofs.Ends.{Begun}
 use Rattle.prophecy_sim.proofs.Begins.{begins}
 use Rattle.prophecy_sim.proofs.States.{OutcomeFine, run_fine}
-
--- ---- no references are met from integers, truth values and `()`
-
-int_meets_none : {K : Type 0} (Δ : Declarations) (s : State K) (t : Tree K) (ty : Ty) (met : List Met) (k : IntKind) → Typed Δ s t ty met → ty ≡ int k → met ≡ []
-int_meets_none Δ s t ty met k (is_int f) e = refl
-int_meets_none Δ s t ty met k (is_truth) e = refl
-int_meets_none Δ s t ty met k (is_tuple h) e = absurd (cc)
-int_meets_none Δ s t ty met k (is_adt d h) e = absurd (cc)
-int_meets_none Δ s t ty met k (is_closure h) e = absurd (cc)
-int_meets_none Δ s t ty met k (is_boxed h) e = absurd (cc)
-int_meets_none Δ s t ty met k (is_shared a h) e = absurd (cc)
-int_meets_none Δ s t ty met k (is_unique a h) e = absurd (cc)
-
-truth_meets_none : {K : Type 0} (Δ : Declarations) (s : State K) (t : Tree K) (ty : Ty) (met : List Met) → Typed Δ s t ty met → ty ≡ bool → met ≡ []
-truth_meets_none Δ s t ty met (is_int f) e = refl
-truth_meets_none Δ s t ty met (is_truth) e = refl
-truth_meets_none Δ s t ty met (is_tuple h) e = absurd (cc)
-truth_meets_none Δ s t ty met (is_adt d h) e = absurd (cc)
-truth_meets_none Δ s t ty met (is_closure h) e = absurd (cc)
-truth_meets_none Δ s t ty met (is_boxed h) e = absurd (cc)
-truth_meets_none Δ s t ty met (is_shared a h) e = absurd (cc)
-truth_meets_none Δ s t ty met (is_unique a h) e = absurd (cc)
-
-no_parts_meet_none : {K : Type 0} (Δ : Declarations) (s : State K) (tys : Tys) {ts : Trees K} {met : List Met} → AreTyped Δ s ts tys met → tys ≡ no_tys → met ≡ []
-no_parts_meet_none Δ s tys none_typed e = refl
-no_parts_meet_none Δ s tys (more_typed h hs) e = absurd (cc)
-
-same_parts : (tys us : Tys) → tuple tys ≡ tuple us → tys ≡ us
-same_parts tys us e = cc
-
-unit_meets_none : {K : Type 0} (Δ : Declarations) (s : State K) (t : Tree K) (ty : Ty) (met : List Met) → Typed Δ s t ty met → ty ≡ unit_ty → met ≡ []
-unit_meets_none Δ s t ty met (is_int f) e = refl
-unit_meets_none Δ s t ty met (is_truth) e = refl
-unit_meets_none Δ s t ty met (is_tuple {tys = tys} h) e = no_parts_meet_none Δ s tys h (same_parts tys no_tys e)
-unit_meets_none Δ s t ty met (is_adt d h) e = absurd (cc)
-unit_meets_none Δ s t ty met (is_closure h) e = absurd (cc)
-unit_meets_none Δ s t ty met (is_boxed h) e = absurd (cc)
-unit_meets_none Δ s t ty met (is_shared a h) e = absurd (cc)
-unit_meets_none Δ s t ty met (is_unique a h) e = absurd (cc)
-
-none_met : {K : Type 0} (Δ : Declarations) (s : State K) (t : Tree K) (ty : Ty) (met : List Met) → Typed Δ s t ty met → (sc : Ty) → ty ≡ instance no_tys sc → IsScalar sc → met ≡ []
-none_met Δ s t ty met h (int k) e scalar = int_meets_none Δ s t ty met k h e
-none_met Δ s t ty met h bool e scalar = truth_meets_none Δ s t ty met h e
-none_met Δ s t ty met h (tuple no_tys) e scalar = unit_meets_none Δ s t ty met h e
-none_met Δ s t ty met h _ e scalar = absurd scalar
-
-first_is : (t u : Ty) (ts us : Tys) → and_ty t ts ≡ and_ty u us → t ≡ u
-first_is t u ts us e = cc
-
-others_are : (t u : Ty) (ts us : Tys) → and_ty t ts ≡ and_ty u us → ts ≡ us
-others_are t u ts us e = cc
-
-none_met_all : {K : Type 0} (Δ : Declarations) (s : State K) (tys : List Ty) {ts : Trees K} {of : Tys} {met : List Met} → AreTyped Δ s ts of met → of ≡ instances no_tys (tys_of tys) →
-    ((i : ℕ) (ty : Ty) → slice_get tys i ≡ Some ty → IsScalar ty) → met ≡ []
-none_met_all Δ s tys none_typed e scalars = refl
-none_met_all Δ s [] (more_typed h hs) e scalars = absurd (cc)
-none_met_all Δ s (sc ∷ tys) (more_typed {t = t} {ty = ty} {tys = vs} {first = first} {rest = rest} h hs) e scalars =
-    ap₂ (λ xs ys. xs ++ ys) (none_met Δ s t ty first h sc (first_is ty (instance no_tys sc) vs (instances no_tys (tys_of tys)) e) (scalars 0 sc refl))
-    (none_met_all Δ s tys hs (others_are ty (instance no_tys sc) vs (instances no_tys (tys_of tys)) e) (λ i u q. scalars (suc i) u q))
 
 module _ {K : Type 0} (s : Setup K) (f : FunctionOf s) (proved : AreProvedFrom s.theory (program_of s) (Function f.number)) where
   abbrev b : Body
@@ -105,11 +43,11 @@ module _ {K : Type 0} (s : Setup K) (f : FunctionOf s) (proved : AreProvedFrom s
   start θ args held = called b f.number θ args held
 
   module _ (args held : List (Tree K)) (proper : IsProper s.theory (bodies s) f.number no_tys args held b []) (meets : MeetsRequires s.theory no_tys c (start no_tys args held) args []) where
-    abbrev shaped : (length args ≡ length param_list) × AreShaped args param_list
-    shaped = are_shaped (typed_args (declarations s) (start no_tys args held) no_tys args param_list [] proper.typed proper.outer)
+    abbrev fit : (length args ≡ length param_list) × AllFit (declarations s) args param_list
+    fit = all_fit (bodies s) (own s f).simple.owns (declarations s) s.declares (own s f).simple.fields (owned_params s f) (typed_args (declarations s) (start no_tys args held) no_tys args param_list [] proper.typed proper.outer)
 
     abbrev values : (vs : Values) × AllShow args vs
-    values = all_values args param_list shaped.0 shaped.1 (scalar_params s f)
+    values = all_values (declarations s) args param_list fit.0 fit.1
 
     abbrev ρ₀ : Env
     ρ₀ = named c.params values.0
@@ -146,7 +84,7 @@ module _ {K : Type 0} (s : Setup K) (f : FunctionOf s) (proved : AreProvedFrom s
           result = a.value;
           finals = tt;
           reads = all_read false (start no_tys args held) (λ k at. nothing) Plain here 0 args values.0 values.1;
-          result_reads = shaped_shows answer.0 t a.value ((own s f).simple.scalars 0 answer.0 answer.1) (typed_shape (declarations s) st t (instance no_tys answer.0) [] typed) a.reads false st
+          result_reads = fit_shows (declarations s) (instance no_tys answer.0) t a.value (local_fits s f 0 answer.0 t answer.1 (record { met = []; typed = typed; outer = tt })) a.reads false st
               (λ k. fill) Plain here;
           holds = a.posts;
         }
@@ -170,7 +108,7 @@ module _ {K : Type 0} (s : Setup K) (f : FunctionOf s) (proved : AreProvedFrom s
 
   at_none : (args held : List (Tree K)) (met : List Met) (n : ℕ) → CallIsFine no_tys args held met n
   at_none args held met n proper meets =
-      let none : met ≡ [] = none_met_all (declarations s) (start no_tys args held) param_list proper.typed refl (scalar_params s f) in
+      let none : met ≡ [] = none_met_all (bodies s) (own s f).simple.owns (declarations s) s.declares (own s f).simple.fields proper.typed (owned_list (bodies s) (own s f).simple.owns param_list (owned_params s f)) in
       subst (λ ms. CallIsFine no_tys args held ms n) (sym none) (λ p q. call_fine args held p q n) proper meets
 
   -- so far bodies have no type parameters
@@ -180,7 +118,7 @@ module _ {K : Type 0} (s : Setup K) (f : FunctionOf s) (proved : AreProvedFrom s
 -- on the machine whose mutable references have no marks
 pub good : TrueObligationsMakeGood
 good Θ program labelling functions fn c is_contract proved θ args held b met proper meets n =
-    let s : Setup (Unit {0}) = record { theory = Θ; code = code_of program.bodies; contracts = program.contracts; gone = program.gone; labelling = labelling; functions = functions; final = λ k at. nothing } in
+    let s : Setup (Unit {0}) = record { theory = Θ; code = code_of program.bodies; contracts = program.contracts; gone = program.gone; labelling = labelling; functions = functions; declares = proper.declares; final = λ k at. nothing } in
     let f : FunctionOf s = record { number = fn; body = b; is_body = proper.of } in
     let same : (own s f).contract ≡ c = same_Some _ _ (sym (own s f).is_contract ∙ is_contract) in
     let Fine : Contract → Type 0 = λ d. MeetsRequires Θ θ d (called b fn θ args held) args met → IsFine Θ θ d (answer_ty b θ) (called b fn θ args held) args met (after (code_of program.bodies) n (called b fn θ args held)) in

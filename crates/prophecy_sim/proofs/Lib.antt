@@ -11,13 +11,14 @@ pub mod Lists
 pub mod Memories
 pub mod Operands
 pub mod Operations
+pub mod Owned
 pub mod Rows
 pub mod SampleConditions
 pub mod SampleLaws
-pub mod Scalars
 pub mod Setup
 pub mod Standing
 pub mod Stands
 pub mod States
 pub mod Steps
+pub mod Switches
 pub mod Waits

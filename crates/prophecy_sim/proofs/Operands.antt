@@ -3,7 +3,6 @@ use Rattle.std.proofs.Common.{◌≡◌, ◌∙◌, ⊎_elim, refl, sym, ap, sub
 use Rattle.text_core.specs.declared.span.Span.{Span}
 use Rattle.source_kinds.specs.declared.kinds.IntKind.{IntKind}
 use Rattle.source_kinds.specs.Range.{fits}
-use Rattle.logic_term.specs.declared.kinds.Ctor.{Ctor}
 use Rattle.logic_term.specs.Meaning.{Structure, Env, Means, with_value}
 use Rattle.logic_term.specs.Ty.{Ty}
 use Rattle.logic_term.specs.Value.{Value, Values, Number, Flag, no_values, and_value, integer_of, flag_of}
@@ -16,12 +15,12 @@ use Rattle.mir_ir.specs.declared.place.Lit.TheVariants as lit
 use Rattle.mir_ir.specs.declared.place.Operand.{Operand}
 use Rattle.mir_ir.specs.declared.place.Operand.TheVariants.{Copy, Move, Const}
 use Rattle.mir_ir.specs.declared.statement.Rvalue.{Rvalue}
-use Rattle.mir_ir.specs.declared.statement.Rvalue.TheVariants.{Use, Binary, Neg, Not, Widen, Make}
+use Rattle.mir_ir.specs.declared.statement.Rvalue.TheVariants.{Use, Binary, Neg, Not, Widen, Make, BoxNew}
 use Rattle.mir_ir.specs.declared.body.Body.{Body}
-use Rattle.mir_ir.specs.WellFormed.{Locals, Within, OperandHas, OperandsHave, RvalueHas, with, without}
+use Rattle.mir_ir.specs.WellFormed.{Locals, Within, OperandHas, OperandsHave, with, without}
 use Rattle.mir_ir.proofs.Taking.{CanTake, CanTakeAll, taken, all_taken, evaluated}
 use Rattle.mir_machine.specs.Try.{Try, Yields, ◌>>=◌, need}
-use Rattle.mir_machine.specs.Tree.{Tree, Made, Gone, trees_of}
+use Rattle.mir_machine.specs.Tree.{Tree, Boxed, Gone}
 use Rattle.mir_machine.specs.Frame.{State}
 use Rattle.mir_machine.specs.Memory.{tree_at}
 use Rattle.mir_machine.specs.Step.{binary, negated, inverted, literal}
@@ -31,7 +30,7 @@ use Rattle.mir_machine.proofs.Tried.{Quiet}
 use Rattle.mir_machine.proofs.Writes.{Written, written_apart}
 use Rattle.mir_machine.proofs.TypedRows.{apart, Took, TookAll, took_none, took_more}
 use Rattle.prophecy_logic.specs.Row.{value_name, name_of, operand_term}
-use Rattle.prophecy_sim.proofs.Scalars.{Shows, AllShow, int_shows, truth_shows, empty_shows}
+use Rattle.prophecy_sim.proofs.Owned.{Shows, AllShow, int_shows, truth_shows, box_shows, made_shows}
 use Rattle.prophecy_sim.proofs.Operations.{applied, InKind, IsInRange, opposite, binary_shows, negated_shows, inverted_shows}
 
 -- ---- the values of right sides in an environment
@@ -56,6 +55,7 @@ rvalue_value b ρ (Neg o) = Number (opposite (operand_value b ρ o))
 rvalue_value b ρ (Not o) = Flag (not (flag_of (operand_value b ρ o)))
 rvalue_value b ρ (Widen o k) = operand_value b ρ o
 rvalue_value b ρ (Make c os) = value.Made c (operand_values b ρ os)
+rvalue_value b ρ (BoxNew o) = operand_value b ρ o
 
 -- the right side does not panic, where a place of this kind is written
 abbrev pub RvalueIsInRange : Body → Option IntKind → Env → Rvalue → Type 0
@@ -65,6 +65,7 @@ RvalueIsInRange b kind ρ (Neg o) = InKind kind (λ k. fits k (opposite (operand
 RvalueIsInRange b kind ρ (Not o) = Unit {0}
 RvalueIsInRange b kind ρ (Widen o k) = Unit {0}
 RvalueIsInRange b kind ρ (Make c os) = Unit {0}
+RvalueIsInRange b kind ρ (BoxNew o) = Unit {0}
 
 -- the term of an operand has the operand's value
 pub operand_means : (S : Structure) (b : Body) (ρ : Env) (o : Operand) → Exactly (Means S (operand_term b o) ρ) (operand_value b ρ o)
@@ -105,6 +106,7 @@ evaluated_before (Neg o) set y e = taken_before o set y e
 evaluated_before (Not o) set y e = taken_before o set y e
 evaluated_before (Widen o k) set y e = taken_before o set y e
 evaluated_before (Make c os) set y e = all_taken_before os set y e
+evaluated_before (BoxNew o) set y e = taken_before o set y e
 
 -- what is initialised behind a write of local x is x, or was so before
 pub with_before : (x : ℕ) (set : Locals) (y : ℕ) → (y == x) ≡ false → with x set y ≡ true → set y ≡ true
@@ -193,20 +195,16 @@ module _ {K : Type 0} (b : Body) where
   use_shows [] v h = absurd h
   use_shows (t ∷ ts) v h = h.0
 
-  none_show : (c : Ctor) (ts : List (Tree K)) → AllShow ts no_values → Shows {K = K} (Made c (trees_of ts)) (value.Made c no_values)
-  none_show c [] h = empty_shows K c
-  none_show c (t ∷ ts) h = absurd h
-
-  pub value_shows : (ρ : Env) (kind : Option IntKind) (span : Span) (r : Rvalue) (ty : Ty) (ts : List (Tree K)) → RvalueHas b r ty → AllShow ts (operand_values b ρ (operands_of r)) → RvalueIsInRange b kind ρ r →
+  pub value_shows : (ρ : Env) (kind : Option IntKind) (span : Span) (r : Rvalue) (ts : List (Tree K)) → AllShow ts (operand_values b ρ (operands_of r)) → RvalueIsInRange b kind ρ r →
       Quiet (λ t. Shows t (rvalue_value b ρ r)) (value_of kind span r ts)
-  value_shows ρ kind span (Use o) ty ts has shows in_range = use_shows ts (operand_value b ρ o) shows
-  value_shows ρ kind span (Binary op x y) ty ts has shows in_range =
+  value_shows ρ kind span (Use o) ts shows in_range = use_shows ts (operand_value b ρ o) shows
+  value_shows ρ kind span (Binary op x y) ts shows in_range =
       two_show ts (operand_value b ρ x) (operand_value b ρ y) (rvalue_value b ρ (Binary op x y)) (binary kind span op) shows
       (λ t u shows_t shows_u. binary_shows K kind span op t u (operand_value b ρ x) (operand_value b ρ y) shows_t shows_u in_range)
-  value_shows ρ kind span (Neg o) ty ts has shows in_range =
+  value_shows ρ kind span (Neg o) ts shows in_range =
       one_shows ts (operand_value b ρ o) (Number (opposite (operand_value b ρ o))) (negated kind span) shows (λ t shows_t. negated_shows K kind span t (operand_value b ρ o) shows_t in_range)
-  value_shows ρ kind span (Not o) ty ts has shows in_range =
+  value_shows ρ kind span (Not o) ts shows in_range =
       one_shows ts (operand_value b ρ o) (Flag (not (flag_of (operand_value b ρ o)))) inverted shows (λ t shows_t. inverted_shows K t (operand_value b ρ o) shows_t)
-  value_shows ρ kind span (Widen o k) ty ts has shows in_range = use_shows ts (operand_value b ρ o) shows
-  value_shows ρ kind span (Make c os) ty ts (is_c, no_parts, is) shows in_range =
-      subst (λ qs. Shows {K = K} (Made c (trees_of ts)) (value.Made c (operand_values b ρ qs))) (sym no_parts) (none_show c ts (subst (λ qs. AllShow ts (operand_values b ρ qs)) no_parts shows))
+  value_shows ρ kind span (Widen o k) ts shows in_range = use_shows ts (operand_value b ρ o) shows
+  value_shows ρ kind span (Make c os) ts shows in_range = made_shows c ts (operand_values b ρ os) shows
+  value_shows ρ kind span (BoxNew o) ts shows in_range = one_shows ts (operand_value b ρ o) (operand_value b ρ o) (λ t. Yields (Boxed t)) shows (λ t shows_t. box_shows t (operand_value b ρ o) shows_t)

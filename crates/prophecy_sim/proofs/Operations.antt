@@ -12,7 +12,7 @@ use Rattle.mir_machine.specs.Try.{Try, Yields, Panics, ◌>>=◌, need}
 use Rattle.mir_machine.specs.Tree.{Tree, Int, Truth, Made, Boxed, Shared, Unique, Gone}
 use Rattle.mir_machine.specs.Step.{fit, divide, of_integers, same_truth, of_truths, binary, negated, inverted}
 use Rattle.mir_machine.proofs.Tried.{Quiet}
-use Rattle.prophecy_sim.proofs.Scalars.{Shows, int_shows, truth_shows, shows_int, shows_truth}
+use Rattle.prophecy_sim.proofs.Owned.{Shows, int_shows, truth_shows, shows_int, shows_truth}
 
 abbrev pub operation_value : BinaryOp → ℤ → ℤ → Value
 operation_value Add a b = Number (a +ℤ b)

@@ -24,7 +24,7 @@ use Rattle.mir_machine.proofs.Tried.{Quiet, quiet_then}
 use Rattle.mir_machine.proofs.Writes.{at_next, at_start, stops_length}
 use Rattle.prophecy_logic.specs.declared.goal.Goal.{Goal}
 use Rattle.prophecy_logic.specs.Row.{goals_of, commands_of}
-use Rattle.prophecy_logic.specs.Graph.{IsBefore, Ends, goto, branch, call, return, panic}
+use Rattle.prophecy_logic.specs.Graph.{IsBefore, Ends, goto, branch, switch, call, return, panic}
 use Rattle.prophecy_logic.specs.Prefix.{within, over_statement, along_goto}
 use Rattle.prophecy_logic.specs.Loop.{loop_writes, statement_touches}
 use Rattle.prophecy_logic.specs.Walk.{seen_before, goals_at_return, Walk, met}
@@ -40,6 +40,7 @@ use Rattle.prophecy_sim.proofs.Standing.{point_of, Standing}
 use Rattle.prophecy_sim.proofs.Steps.{After, statement_quiet}
 use Rattle.prophecy_sim.proofs.Ends.{Continues, Ways, here_ends, goes_on, branch_comes, return_comes}
 use Rattle.prophecy_sim.proofs.Called.{call_comes}
+use Rattle.prophecy_sim.proofs.Switches.{switch_comes}
 
 module _ {K : Type 0} (s : Setup K) (f : FunctionOf s) (ρ₀ : Env) (fr : Frame K) (fs : State K) (inside : length (stops fs) ≡ 0 → ⊥) (st : Standing s f ρ₀ (fr ∷ fs) (length (stops fs)) (stop_of fr))
     (Fine : Outcome K → Type 0) (continues : Continues s f ρ₀ Fine fr fs) where
@@ -75,11 +76,14 @@ module _ {K : Type 0} (s : Setup K) (f : FunctionOf s) (ρ₀ : Env) (fr : Frame
       let (v, is_v, stay, same) = goto-row s.code now end.span l g (stops fs) refl in
       subst (λ k. Quiet Fine (end_step s.code now end.span k)) (sym q) (subst (Quiet Fine) (sym is_v)
       (continues.stays v (at_start l g) stay (λ at d. same at)
-      (goes_on s f ρ₀ fr fs inside st l end_set v arrives (record { commands = came.commands; prefix = along_goto st.block.end l came.prefix (here_ends s f ρ₀ fr fs inside st is_last) kind; moves = came.moves }) hold
+      (goes_on s f ρ₀ fr fs inside st ρ st.keeps l end_set v arrives (record { commands = came.commands; prefix = along_goto st.block.end l came.prefix (here_ends s f ρ₀ fr fs inside st is_last) kind; moves = came.moves }) hold
       (held_moved (declarations s) (λ x. same (local_at n x)) (λ at e. same at) held) (agree_moved b now v n end_set ρ (λ x. same (local_at n x)) agrees) carries
-      (ways l (subst (λ x. among l (targets x) ≡ true) (sym kind) (among_first l [])) carries))))
+      (ways ρ (λ x ty e. refl) l (subst (λ x. among l (targets x) ≡ true) (sym kind) (among_first l [])) carries))))
   end_comes {end = end} (branch o l r q to_l to_r) is is_last came hold held agrees nested enclosing behind ways =
       subst (λ k. Quiet Fine (end_step s.code now end.span k)) (sym q) (branch_comes s f ρ₀ fr fs inside st Fine continues end.span o l r (ap (λ (x : Terminator). x.kind) (sym is) ∙ q) to_l to_r came (here_ends s f ρ₀ fr fs inside st is_last) hold held agrees ways)
+  end_comes {end = end} (switch p ls q sides) is is_last came hold held agrees nested enclosing behind ways =
+      subst (λ k. Quiet Fine (end_step s.code now end.span k)) (sym q)
+      (switch_comes s f ρ₀ fr fs inside st Fine continues end.span p ls (ap (λ (x : Terminator). x.kind) (sym is) ∙ q) sides came (here_ends s f ρ₀ fr fs inside st is_last) hold held agrees ways)
   end_comes {end = end} (call p callee types os l d t q is_d is_t arrives) is is_last came hold held agrees nested enclosing behind ways =
       subst (λ k. Quiet Fine (end_step s.code now end.span k)) (sym q)
       (call_comes s f ρ₀ fr fs inside st Fine continues p callee types os l d t end.span (ap (λ (x : Terminator). x.kind) (sym is) ∙ q) is_d is_t arrives came is_last hold held agrees nested enclosing behind)
@@ -98,7 +102,7 @@ module _ {K : Type 0} (s : Setup K) (f : FunctionOf s) (ρ₀ : Env) (fr : Frame
       (subst (λ i. Holding s f now n (initialised g.label i)) here st.stands.held)
       (subst (λ i. Agree b now n (initialised g.label i) ρ) here (stands_agree s f st.stands))
       nested st.enclosing st.behind
-      (λ l a w. reached s f ρ₀ (initialised l 0) ρ st.heads g.label l st.block (memories_kept s f ρ₀ nested (λ h i x ty u inside is_x. (w x inside, refl))) st.enclosing st.behind ((own s f).simple.laid_out.edges g.label l st.block st.is_block a))
+      (λ σ same l a w. reached s f ρ₀ (initialised l 0) σ st.heads g.label l st.block (memories_kept s f ρ₀ nested (λ h i x ty u inside is_x. (w x inside, same x ty is_x))) st.enclosing st.behind ((own s f).simple.laid_out.edges g.label l st.block st.is_block a))
 
   -- ---- statements
 

@@ -1,5 +1,5 @@
 -- A program with a loop and a call meets the conditions of the law.
-use Rattle.std.proofs.Common.{◌≡◌, ◌∙◌, inl, inr, refl, sym, ap, subst, ℕ, zero, suc, ◌+◌, ◌<◌, ◌≤◌, ◌==◌, ◌⊎◌, ◌||◌, ◌&&◌, Bool, true, false, cond, true≢false, List, Some, [], ◌∷◌, length, slice_get, arith}
+use Rattle.std.proofs.Common.{◌≡◌, ◌∙◌, inl, inr, refl, sym, ap, subst, ℕ, zero, suc, ◌+◌, ◌<◌, ◌≤◌, ◌==◌, ◌⊎◌, ◌||◌, ◌&&◌, Bool, true, false, cond, true≢false, List, Some, None, [], ◌∷◌, length, slice_get, arith}
 use Rattle.std.proofs.lemmas.Option.{same_Some}
 use Rattle.std.proofs.lemmas.Bool.{eqb-true}
 use Rattle.std.proofs.lemmas.Bool.Decides.{nat_tests}
@@ -7,19 +7,23 @@ use Rattle.text_core.specs.declared.name.Name.{Name}
 use Rattle.logic_term.specs.declared.kinds.Label.{Label}
 use Rattle.logic_term.specs.Free.{free}
 use Rattle.logic_term.specs.Term.{Term}
-use Rattle.logic_term.specs.Ty.{Ty, bool}
+use Rattle.logic_term.specs.Sort.{HasSort, instance, of_bool}
+use Rattle.logic_term.specs.Theory.{declared}
+use Rattle.logic_term.specs.Ty.{Ty, Tys, bool, no_tys}
+use Rattle.logic_term.specs.Value.{Value, Flag}
 use Rattle.logic_term.proofs.FreeLaw.{same_name}
 use Rattle.mir_ir.specs.declared.statement.Statement.{Statement}
 use Rattle.mir_ir.specs.declared.body.Block.{Block}
 use Rattle.mir_ir.specs.declared.body.Body.{Body}
 use Rattle.mir_ir.specs.declared.body.Head.{Head}
 use Rattle.mir_ir.specs.Body.{block_in}
+use Rattle.mir_ir.specs.Declares.{theory_in}
 use Rattle.mir_ir.specs.Layout.{among, targets, Leads, on, back}
 use Rattle.mir_ir.specs.WellFormed.{HasBlock, StatementIsTyped, EndIsTyped, IsTyped, Locals, with, Within, parameters, Labelling, MeetsMoveRows}
 use Rattle.mir_ir.proofs.Taking.{rows_together, CanRun, run, CanEnd, Carries}
 use Rattle.prophecy_logic.specs.Loop.{is_gone}
 use Rattle.mir_machine.specs.Good.{Each}
-use Rattle.prophecy_sim.specs.Programs.{IsScalar, IsSimple, HeadsSpeakOf, AreFunctions, IsFunction}
+use Rattle.prophecy_sim.specs.Programs.{IsOwned, IsSimple, HeadsSpeakOf, AreFunctions, IsFunction}
 use Rattle.prophecy_sim.specs.Sample.{label, name, head, cleared, caller, is_false, program, SampleIsSound}
 use Rattle.mir_ir.specs.Names.{IsOneOf, IsNameIn, ContractSpeaks, new_number}
 
@@ -74,7 +78,7 @@ abbrev by_number : (ℕ → ℕ → Locals) → Labelling
 by_number sets l i = sets l.0 i
 
 abbrev IsSoundAt : Body → (ℕ → ℕ → Locals) → Label → ℕ → Statement → Type 0
-IsSoundAt b sets l i st = StatementIsTyped b st.kind × CanRun (sets l.0 i) st.kind × Within (sets l.0 (i + 1)) (run st.kind (sets l.0 i))
+IsSoundAt b sets l i st = StatementIsTyped program.bodies b st.kind × CanRun (sets l.0 i) st.kind × Within (sets l.0 (i + 1)) (run st.kind (sets l.0 i))
 
 record BlockIsSound (b : Body) (sets : ℕ → ℕ → Locals) (l : Label) (k : Block) : Type 0 where
   statements : EachStatement (IsSoundAt b sets l) 0 k.statements
@@ -172,8 +176,8 @@ param_number : (i : ℕ) (n : Name) → slice_get is_false.params i ≡ Some n �
 param_number zero n e = (ap (λ (m : Name). m.0) (sym (same_Some _ _ e)), refl)
 param_number (suc i) n e = absurd (cc)
 
-not_new : (n : Name) → n.0 < 200 → n.0 ≡ new_number → ⊥
-not_new n l q = absurd (omega arith)
+is_below_new : (n : Name) → n.0 < 200 → n.0 < new_number
+is_below_new n l = omega arith
 
 below : (m n : ℕ) → m ≡ 100 + n → n < 2 → m < 200
 below m n e l = omega arith
@@ -193,13 +197,16 @@ leads_on = (
   ),
 )
 
-simple : IsSimple cleared
+simple : IsSimple program.bodies cleared
 simple = record {
   names = record {
     apart = λ x y n m e f q. apart x y n m (local_number x n e).0 (local_number y m f).0 q;
-    none_is_new = λ x n e q. not_new n (below n.0 x (local_number x n e).0 (local_number x n e).1) q;
+    none_is_new = λ x n e. is_below_new n (below n.0 x (local_number x n e).0 (local_number x n e).1);
   };
-  scalars = scalar;
+  owns = λ d. false;
+  fields = λ d k fs own e. absurd (no_fields fs e);
+  owned = owned;
+  valued = valued;
   laid_out = record {
     entry = _;
     is_entry = refl;
@@ -211,18 +218,29 @@ simple = record {
     apart : (x y : ℕ) (n m : Name) → n.0 ≡ 100 + x → m.0 ≡ 100 + y → n.0 ≡ m.0 → x ≡ y
     apart x y n m e f q = omega arith
 
-    scalar : (x : ℕ) (ty : Ty) → slice_get cleared.locals x ≡ Some ty → IsScalar ty
-    scalar zero ty e = subst IsScalar (same_Some _ _ e) tt
-    scalar (suc zero) ty e = subst IsScalar (same_Some _ _ e) tt
-    scalar (suc (suc x)) ty e = absurd (cc)
+    owned : (x : ℕ) (ty : Ty) → slice_get cleared.locals x ≡ Some ty → IsOwned program.bodies (λ d. false) ty
+    owned zero ty e = subst (IsOwned program.bodies (λ d. false)) (same_Some _ _ e) tt
+    owned (suc zero) ty e = subst (IsOwned program.bodies (λ d. false)) (same_Some _ _ e) tt
+    owned (suc (suc x)) ty e = absurd (cc)
+
+    no_fields : (fs : Tys) → None ≡ Some fs → ⊥
+    no_fields fs e = cc
+
+    valued : (x : ℕ) (ty : Ty) → slice_get cleared.locals x ≡ Some ty → (v : Value) × HasSort (declared (theory_in program.bodies)) v (instance no_tys ty)
+    valued zero ty e = subst (λ q. (v : Value) × HasSort (declared (theory_in program.bodies)) v (instance no_tys q)) (same_Some _ _ e) (Flag false, of_bool)
+    valued (suc zero) ty e = subst (λ q. (v : Value) × HasSort (declared (theory_in program.bodies)) v (instance no_tys q)) (same_Some _ _ e) (Flag false, of_bool)
+    valued (suc (suc x)) ty e = absurd (cc)
 
 caller_leads_on : EachBlock (λ l k. EachLabel (Leads caller l k) (targets k.end.kind)) caller.blocks
 caller_leads_on = ((on _ refl (omega arith) (record { outer = []; inner = []; is_around = refl; within = refl }), tt), (tt, tt))
 
-caller_simple : IsSimple caller
+caller_simple : IsSimple program.bodies caller
 caller_simple = record {
   names = record { apart = simple.names.apart; none_is_new = simple.names.none_is_new };
-  scalars = simple.scalars;
+  owns = simple.owns;
+  fields = simple.fields;
+  owned = simple.owned;
+  valued = simple.valued;
   laid_out = record {
     entry = _;
     is_entry = refl;
@@ -238,7 +256,7 @@ speaks = record {
   count = refl;
   apart = λ i j x y e f q. same i j (param_number i x e).1 (param_number j y f).1;
   no_local = λ i x n m e f q. no_local x n m (param_number i n e).0 (local_number x m f).0 q;
-  none_is_new = λ i n e q. not_new n (is_below n.0 (param_number i n e).0) q;
+  none_is_new = λ i n e. is_below_new n (is_below n.0 (param_number i n e).0);
   before = λ j t e. absurd (cc);
   over = post_over;
 }

@@ -1,21 +1,17 @@
 -- A frame that stands in its body, and its arrival at a block.
-use Rattle.std.proofs.Common.{◌≡◌, ◌∙◌, ◌⊎◌, inl, inr, refl, sym, ap, subst, ℕ, ◌≤◌, pos, Bool, true, false, cond, List, [], ◌∷◌, ◌++◌, length, drop, Option, Some, None, slice_get, true≢false, arith}
+use Rattle.std.proofs.Common.{◌≡◌, ◌∙◌, ◌⊎◌, inl, inr, refl, sym, ap, subst, ℕ, ◌≤◌, Bool, true, false, cond, List, [], ◌∷◌, ◌++◌, length, drop, Option, Some, None, slice_get, true≢false, arith}
 use Rattle.std.proofs.lemmas.Option.{same_Some}
 use Rattle.text_core.specs.declared.name.Name.{Name}
 use Rattle.text_core.specs.declared.refusal.Kind.{Kind}
 use Rattle.text_core.specs.declared.refusal.Kind.TheVariants.{InvEntry, InvKept}
 use Rattle.text_core.specs.declared.span.Span.{Span}
-use Rattle.logic_term.specs.declared.kinds.Ctor.TheVariants.{Tuple}
 use Rattle.logic_term.specs.declared.kinds.Label.{Label}
-use Rattle.source_kinds.specs.declared.kinds.IntKind.{IntKind}
-use Rattle.source_kinds.specs.declared.kinds.IntKind.TheVariants.{I8, I16, I32, I64, Isize, U8, U16, U32, U64, Usize}
-use Rattle.source_kinds.specs.Range.{fits}
 use Rattle.logic_term.specs.Free.{free}
 use Rattle.logic_term.specs.Term.{Term}
 use Rattle.logic_term.specs.Meaning.{Structure, Env, Holds}
-use Rattle.logic_term.specs.Sort.{HasSort, Declarations, instance, of_int, of_bool, of_tuple, of_none}
-use Rattle.logic_term.specs.Ty.{Ty, int, bool, tuple, no_tys}
-use Rattle.logic_term.specs.Value.{Value, Number, Flag, Made, no_values, nothing}
+use Rattle.logic_term.specs.Sort.{HasSort, instance}
+use Rattle.logic_term.specs.Ty.{Ty, no_tys}
+use Rattle.logic_term.specs.Value.{Value, nothing}
 use Rattle.logic_term.proofs.Alike.{yes_alike}
 use Rattle.logic_term.proofs.FreeLaw.{coincide_free}
 use Rattle.mir_ir.specs.declared.body.Block.{Block}
@@ -41,10 +37,9 @@ use Rattle.prophecy_logic.specs.declared.touch.Touch.TheVariants.{Untouched, Who
 use Rattle.prophecy_logic.specs.Walk.{each_goal, goals_at_entry, goals_after_turn, seen_before, Walk, met}
 use Rattle.prophecy_logic.specs.Walkable.{AllAmong}
 use Rattle.prophecy_logic.proofs.Commands.{GoalsHold, goals_moved, goals_first, goals_rest, then_moves}
-use Rattle.prophecy_sim.specs.Programs.{IsScalar}
 use Rattle.prophecy_sim.proofs.Lists.{each_of}
-use Rattle.prophecy_sim.proofs.Setup.{Setup, FunctionOf, S, declarations, own, walked, local_named, local_of, named_as, params_outside}
-use Rattle.prophecy_sim.proofs.Scalars.{Shows}
+use Rattle.prophecy_sim.proofs.Setup.{Setup, FunctionOf, S, bodies, declarations, own, walked, local_named, local_of, named_as, params_outside}
+use Rattle.prophecy_sim.proofs.Owned.{Shows, sort_there}
 use Rattle.prophecy_sim.proofs.Operands.{Agree}
 use Rattle.prophecy_sim.proofs.Stands.{Holding, Stands, they_stand, local_sort}
 use Rattle.prophecy_sim.proofs.Entries.{assumed_move}
@@ -57,39 +52,6 @@ each_holds S₀ kind [] spans ρ h = tt
 each_holds S₀ kind (t ∷ ts) spans ρ h = (h.0, each_holds S₀ kind ts (drop 1 spans) ρ h.1)
 
 -- ---- any value of a type
-
-default_of : Ty → Value
-default_of (int k) = Number (pos 0)
-default_of bool = Flag false
-default_of (tuple no_tys) = Made Tuple no_values
-default_of _ = nothing
-
-ty_or : Option Ty → Ty
-ty_or (Some ty) = ty
-ty_or None = bool
-
-zero_fits : (k : IntKind) → fits k (pos 0) ≡ true
-zero_fits I8 = refl
-zero_fits I16 = refl
-zero_fits I32 = refl
-zero_fits I64 = refl
-zero_fits Isize = refl
-zero_fits U8 = refl
-zero_fits U16 = refl
-zero_fits U32 = refl
-zero_fits U64 = refl
-zero_fits Usize = refl
-
-default_sort : (Δ : Declarations) (ty : Ty) → IsScalar ty → HasSort Δ (default_of ty) (instance no_tys ty)
-unfolding default_of
-default_sort Δ (int k) scalar = of_int (zero_fits k)
-default_sort Δ bool scalar = of_bool
-default_sort Δ (tuple no_tys) scalar = of_tuple of_none
-default_sort Δ _ scalar = absurd scalar
-
-ty_is : (o : Option Ty) (ty : Ty) → o ≡ Some ty → ty_or o ≡ ty
-unfolding ty_or
-ty_is o ty e = ap ty_or e
 
 -- what is there at a head and is not touched is not written
 not_touched : (gone writes : Bool) → gone ≡ false → cond gone Untouched (cond writes Whole Untouched) ≡ Untouched → writes ≡ false
@@ -162,25 +124,35 @@ module _ {K : Type 0} (s : Setup K) (f : FunctionOf s) (ρ₀ : Env) where
   -- ---- at the head of a loop
 
   module _ (heads : List Label) (l : Label) (st : State K) (frame : ℕ) (c : Coming heads l st frame) (outer : List Label) (p : Passed s f ρ₀ l outer (initialised l 0) c.env) where
+    -- some value of the local's type
+    default_at : (x : ℕ) (o : Option Ty) → slice_get b.locals x ≡ o → Value
+    default_at x (Some ty) e = ((own s f).simple.valued x ty e).0
+    default_at x None e = nothing
+
+    default_sort : (x : ℕ) (ty : Ty) (o : Option Ty) (e : slice_get b.locals x ≡ o) → o ≡ Some ty → HasSort (declarations s) (default_at x o e) (instance no_tys ty)
+    unfolding default_at
+    default_sort x ty (Some u) e is =
+        subst (λ v. HasSort (declarations s) ((own s f).simple.valued x u e).0 (instance no_tys v)) (same_Some _ _ is) (sort_there (bodies s) (own s f).simple.owns (declarations s) s.declares (own s f).simple.fields ((own s f).simple.valued x u e).1)
+    default_sort x ty None e is = absurd (cc)
+
     -- the local has the value that the run has, or any
     new_value : ℕ → Value
-    new_value x = cond (initialised l 0 x) (c.env (name_of b x)) (default_of (ty_or (slice_get b.locals x)))
+    new_value x = cond (initialised l 0 x) (c.env (name_of b x)) (default_at x (slice_get b.locals x) refl)
 
     there_value : (x : ℕ) → initialised l 0 x ≡ true → new_value x ≡ c.env (name_of b x)
     unfolding new_value
-    there_value x e = ap (λ t. cond t (c.env (name_of b x)) (default_of (ty_or (slice_get b.locals x)))) e
+    there_value x e = ap (λ t. cond t (c.env (name_of b x)) (default_at x (slice_get b.locals x) refl)) e
 
-    gone_value : (x : ℕ) → initialised l 0 x ≡ false → new_value x ≡ default_of (ty_or (slice_get b.locals x))
+    gone_value : (x : ℕ) → initialised l 0 x ≡ false → new_value x ≡ default_at x (slice_get b.locals x) refl
     unfolding new_value
-    gone_value x e = ap (λ t. cond t (c.env (name_of b x)) (default_of (ty_or (slice_get b.locals x)))) e
+    gone_value x e = ap (λ t. cond t (c.env (name_of b x)) (default_at x (slice_get b.locals x) refl)) e
 
     new_sort : (x : ℕ) (ty : Ty) → slice_get b.locals x ≡ Some ty → HasSort (declarations s) (new_value x) (instance no_tys ty)
     new_sort x ty is_ty = by_test (initialised l 0 x) refl
       where
         by_test : (t : Bool) → initialised l 0 x ≡ t → HasSort (declarations s) (new_value x) (instance no_tys ty)
         by_test true e = subst (λ v. HasSort (declarations s) v (instance no_tys ty)) (sym (there_value x e)) (local_sort s f st frame (initialised l 0) c.env c.held c.agrees x ty is_ty e)
-        by_test false e = subst (λ v. HasSort (declarations s) v (instance no_tys ty)) (sym (gone_value x e ∙ ap default_of (ty_is (slice_get b.locals x) ty is_ty)))
-            (default_sort (declarations s) ty ((own s f).simple.scalars x ty is_ty))
+        by_test false e = subst (λ v. HasSort (declarations s) v (instance no_tys ty)) (sym (gone_value x e)) (default_sort x ty (slice_get b.locals x) refl is_ty)
 
     abbrev again_env : Renewed (S s) b (own s f).simple.names (own s f).typed.named (touched_there b (walked s f).init l) new_value p.first.env
     again_env = renewed_move (S s) b (own s f).simple.names (own s f).typed.named (touched_there b (walked s f).init l) new_value p.first.env (λ x ty t is_ty. new_sort x ty is_ty)

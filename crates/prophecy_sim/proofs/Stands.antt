@@ -19,10 +19,10 @@ use Rattle.mir_machine.specs.Reads.{Owner, Reads}
 use Rattle.mir_machine.specs.Good.{not_lent}
 use Rattle.mir_machine.specs.Invariant.{local_at, HoldsLocals}
 use Rattle.mir_machine.proofs.Stacks.{held_moved}
-use Rattle.mir_machine.proofs.TypedTrees.{SameOutside, has_shape}
+use Rattle.mir_machine.proofs.TypedTrees.{SameOutside}
 use Rattle.prophecy_logic.specs.Row.{name_of}
-use Rattle.prophecy_sim.proofs.Setup.{Setup, FunctionOf, declarations, own}
-use Rattle.prophecy_sim.proofs.Scalars.{shaped_shows, shaped_sort}
+use Rattle.prophecy_sim.proofs.Setup.{Setup, FunctionOf, declarations, local_fits}
+use Rattle.prophecy_sim.proofs.Owned.{fit_shows, fit_sort}
 use Rattle.prophecy_sim.proofs.Operands.{operand_value, Agree, agree_moved}
 
 module _ {K : Type 0} (s : Setup K) (f : FunctionOf s) where
@@ -41,7 +41,7 @@ module _ {K : Type 0} (s : Setup K) (f : FunctionOf s) where
 
   pub stands_agree : {st : State K} {frame : ℕ} {set : Locals} {ρ : Env} → Stands st frame set ρ → Agree b st frame set ρ
   stands_agree {ρ = ρ} h x ty t inside is_ty e =
-      shaped_shows ty t (ρ (name_of b x)) ((own s f).simple.scalars x ty is_ty) (has_shape (h.held.typed x ty t inside is_ty e)) (h.reads x ty t inside is_ty e)
+      fit_shows (declarations s) (instance no_tys ty) t (ρ (name_of b x)) (local_fits s f x ty t is_ty (h.held.typed x ty t inside is_ty e)) (h.reads x ty t inside is_ty e)
 
   -- locals of these types stand wherever the frame is
   pub they_stand : (st : State K) (frame : ℕ) {set : Locals} {ρ : Env} → Holding st frame set → Agree b st frame set ρ → Stands st frame set ρ
@@ -58,7 +58,7 @@ module _ {K : Type 0} (s : Setup K) (f : FunctionOf s) where
       HasSort (declarations s) (ρ (name_of b x)) (instance no_tys ty)
   local_sort st frame set ρ held agrees x ty is_ty inside =
       let t = held.slot x ty is_ty in
-      shaped_sort (declarations s) ty t.0 (ρ (name_of b x)) ((own s f).simple.scalars x ty is_ty) (has_shape (held.typed x ty t.0 inside is_ty t.1)) (agrees x ty t.0 inside is_ty t.1)
+      fit_sort (declarations s) (instance no_tys ty) t.0 (ρ (name_of b x)) (local_fits s f x ty t.0 is_ty (held.typed x ty t.0 inside is_ty t.1)) (agrees x ty t.0 inside is_ty t.1)
 
   pub operand_sort : (st : State K) (frame : ℕ) (set : Locals) (ρ : Env) → Holding st frame set → Agree b st frame set ρ → (o : Operand) (ty : Ty) → OperandHas b o ty → CanTake set o →
       HasSort (declarations s) (operand_value b ρ o) (instance no_tys ty)

@@ -27,10 +27,10 @@ use Rattle.prophecy_logic.specs.Loop.{statement_touches}
 use Rattle.prophecy_logic.proofs.Loops.{not_written}
 use Rattle.mir_ir.specs.Acts.{acts_of_rvalue}
 use Rattle.prophecy_logic.proofs.Commands.{GoalsHold}
-use Rattle.prophecy_sim.proofs.Setup.{Setup, FunctionOf, S, declarations, local_named, apart_from, not_new, IsOutside}
+use Rattle.prophecy_sim.proofs.Setup.{Setup, FunctionOf, S, bodies, declarations, local_named, apart_from, not_new, IsOutside}
 use Rattle.prophecy_sim.proofs.Operands.{rvalue_value, evaluated_before, with_before, without_before, Agree, agree_gone, agree_set, took_all_agree, took_all_show, value_shows}
 use Rattle.prophecy_sim.proofs.Stands.{Holding, operand_sort}
-use Rattle.prophecy_sim.proofs.Scalars.{Shows}
+use Rattle.prophecy_sim.proofs.Owned.{Shows}
 use Rattle.prophecy_sim.proofs.Assigns.{assigned}
 
 pub other_number : (x y : ℕ) → (x == y) ≡ false → (y == x) ≡ false
@@ -51,13 +51,13 @@ module _ {K : Type 0} (s : Setup K) (f : FunctionOf s) (n : ℕ) (inside : n ≡
     -- what is not written and is initialised was so before, with the value that it has
     pub others : (x : ℕ) (ty : Ty) → statement_touches x kind ≡ false → run kind set x ≡ true → slice_get b.locals x ≡ Some ty → (set x ≡ true) × (env (name_of b x) ≡ ρ (name_of b x))
 
-  pub statement_quiet : (st : State K) (kind : StatementKind) (set : Locals) (ρ : Env) (span : Span) (g : Stop) (gs : List Stop) → running st ≡ n → stops st ≡ g ∷ gs → StatementIsTyped b kind → CanRun set kind →
+  pub statement_quiet : (st : State K) (kind : StatementKind) (set : Locals) (ρ : Env) (span : Span) (g : Stop) (gs : List Stop) → running st ≡ n → stops st ≡ g ∷ gs → StatementIsTyped (bodies s) b kind → CanRun set kind →
       Holding s f st n set → Agree b st n set ρ → GoalsHold (S s) ρ (goals_of b span kind) →
       Quiet (After st kind set ρ (at_next g ∷ gs)) (statement_step b no_tys st span kind)
   statement_quiet st (Assign p r) set ρ span g gs is_n is_stops (ty, has, rhas) can held agrees goals =
-      let a = assign_yields (declarations s) b no_tys n inside st set span p r ty g gs is_n is_stops held has rhas can in
+      let a = assign_yields (declarations s) b no_tys n inside (bodies s) s.declares st set span p r ty g gs is_n is_stops held has rhas can in
       let u : State K = a.takes.after in
-      let l = assigned s.theory b (not_new s f) ρ span p set r ty has rhas can (operand_sort s f st n set ρ held agrees) goals in
+      let l = assigned s.theory b (not_new s f) ρ span p (bodies s) set r ty has rhas can (operand_sort s f st n set ρ held agrees) goals in
       let others : (y : ℕ) (w : Ty) → slice_get b.locals y ≡ Some w → (y ≡ p.local → ⊥) → l.env (name_of b y) ≡ ρ (name_of b y) =
       λ y w is_y d. l.elsewhere (name_of b y) (apart_from s f p.local y ty w has.1 is_y d) (not_new s f y w is_y) in
       let kind : Option IntKind = kind_in (place_ty b no_tys p) in
@@ -66,7 +66,7 @@ module _ {K : Type 0} (s : Setup K) (f : FunctionOf s) (n : ℕ) (inside : n ≡
       let agreed : Agree b u n (evaluated r set) ρ = subst (λ (q : Locals). Agree b u n q ρ) (evaluated_is r set) (took_all_agree b ρ agrees a.takes.took) in
       subst (Quiet P) (sym a.row)
       (quiet_then (λ t. HasType (declarations s) u (instance no_tys ty) t × Shows t (rvalue_value b ρ r)) P (value_of kind span r a.takes.trees) (λ t. write u p t >>= past)
-      (quiet_both (HasType (declarations s) u (instance no_tys ty)) (λ t. Shows t (rvalue_value b ρ r)) (value_of kind span r a.takes.trees) a.value (value_shows b ρ kind span r ty a.takes.trees rhas shows l.in_range))
+      (quiet_both (HasType (declarations s) u (instance no_tys ty)) (λ t. Shows t (rvalue_value b ρ r)) (value_of kind span r a.takes.trees) a.value (value_shows b ρ kind span r a.takes.trees shows l.in_range))
       (λ t h. let v = a.puts t in subst (Quiet P) (sym v.1) (record {
         ran = assigned_ran (declarations s) b no_tys n inside a t v.0 has h.0 v.2;
         env = l.env;

@@ -39,7 +39,7 @@ use Rattle.mir_machine.specs.Step.{Outcome, Running, at_label, come_back}
 use Rattle.mir_machine.specs.Invariant.{Stop, stop_of, stops, local_at, HasType}
 use Rattle.mir_machine.proofs.EndRows.{back-row}
 use Rattle.mir_machine.proofs.TypedRows.{write_then, held_within, held_set}
-use Rattle.mir_machine.proofs.TypedTrees.{Shape, SameOutside, typed_shape}
+use Rattle.mir_machine.proofs.TypedTrees.{SameOutside}
 use Rattle.mir_machine.proofs.Writes.{SameElsewhere, at_start, label_yields, written_elsewhere, stops_length}
 use Rattle.prophecy_logic.specs.Command.{by_fresh, by_set, none, more, MovesAll}
 use Rattle.prophecy_logic.specs.Row.{operand_term, value_name, name_of}
@@ -52,8 +52,8 @@ use Rattle.prophecy_logic.specs.Walk.{seen_before, call_commands, at_arguments_a
 use Rattle.prophecy_logic.specs.Walkable.{AllAmong}
 use Rattle.prophecy_logic.proofs.Commands.{GoalsHold, goals_moved, then_moves}
 use Rattle.prophecy_sim.proofs.Lists.{decide, each_of}
-use Rattle.prophecy_sim.proofs.Setup.{Setup, FunctionOf, move_rows, S, bodies, declarations, own, contract_of, walked, local_named, apart_from, not_new, OverAnswer}
-use Rattle.prophecy_sim.proofs.Scalars.{Shows, shaped_shows, shaped_sort}
+use Rattle.prophecy_sim.proofs.Setup.{Setup, FunctionOf, move_rows, S, bodies, declarations, own, contract_of, walked, local_named, apart_from, not_new, OverAnswer, local_fits}
+use Rattle.prophecy_sim.proofs.Owned.{Shows, Fits, fit_shows, fit_sort}
 use Rattle.prophecy_sim.proofs.Operands.{operand_values, Agree, agree_within, agree_set, with_before}
 use Rattle.prophecy_sim.proofs.Calls.{overlay, overlay_named, AsMany, as_many, as_many_operands, new_values, AreExactly, with_terms_mean, all_exactly}
 use Rattle.prophecy_sim.proofs.Entries.{assumed_move}
@@ -190,17 +190,17 @@ module _ {K : Type 0} (s : Setup K) where
       typed_answer : Typed (declarations s) st t (instance no_tys w.call.answer) []
       typed_answer = subst (λ ty. Typed (declarations s) st t (instance no_tys ty) []) (first_ty c.locals w.call.answer first_local) a.typed
 
-      shape : Shape (instance no_tys w.call.answer) t
-      shape = typed_shape (declarations s) st t (instance no_tys w.call.answer) [] typed_answer
+      fit : Fits (declarations s) t (instance no_tys w.call.answer)
+      fit = local_fits s f p.local w.call.answer t w.call.is_answer (record { met = []; typed = typed_answer; outer = tt })
 
       not_outside : frame ≡ 0 → ⊥
       not_outside e = omega (arith, e)
 
       shows : Shows t v
-      shows = shaped_shows w.call.answer t v ((own s f).simple.scalars p.local w.call.answer w.call.is_answer) shape a.reads
+      shows = fit_shows (declarations s) (instance no_tys w.call.answer) t v fit a.reads
 
       sort : HasSort (declarations s) v (instance no_tys w.call.answer)
-      sort = shaped_sort (declarations s) w.call.answer t v ((own s f).simple.scalars p.local w.call.answer w.call.is_answer) shape shows
+      sort = fit_sort (declarations s) (instance no_tys w.call.answer) t v fit shows
 
       -- ---- the commands of the call
 

@@ -1,11 +1,15 @@
--- Programs of functions over integers, truth values and `()`, and what true obligations are worth.
-use Rattle.std.specs.Prelude.{◌≡◌, ℕ, true, List, Some, slice_get, false}
+-- Programs of functions whose values hold no references, and what true obligations are worth.
+use Rattle.std.specs.Prelude.{◌≡◌, ℕ, Bool, true, List, Some, slice_get, false}
 use Rattle.logic_term.specs.declared.kinds.Label.{Label}
 use Rattle.logic_term.specs.declared.obligation.Contract.{Contract}
 use Rattle.logic_term.specs.declared.obligation.Obligation.{Obligation}
-use Rattle.logic_term.specs.Theory.{Theory}
+use Rattle.logic_term.specs.declared.declaration.AdtDecl.{AdtDecl}
+use Rattle.logic_term.specs.declared.kinds.AdtId.{AdtId}
+use Rattle.logic_term.specs.Sort.{HasSort, instance}
+use Rattle.logic_term.specs.Theory.{Theory, declared}
+use Rattle.logic_term.specs.Value.{Value}
 use Rattle.logic_term.specs.Obligations.{IsTrueObligation}
-use Rattle.logic_term.specs.Ty.{Ty, int, bool, tuple, no_tys}
+use Rattle.logic_term.specs.Ty.{Ty, Tys, int, bool, math_int, tuple, adt, boxed, param, no_tys, and_ty}
 use Rattle.mir_ir.specs.declared.place.Operand.{Operand}
 use Rattle.mir_ir.specs.declared.place.Place.{Place}
 use Rattle.mir_ir.specs.declared.terminator.Callee.{Callee}
@@ -15,6 +19,7 @@ use Rattle.mir_ir.specs.declared.body.Body.{Body}
 use Rattle.mir_ir.specs.declared.body.Contracts.{Contracts}
 use Rattle.mir_ir.specs.Body.{no_resolves}
 use Rattle.mir_ir.specs.Callees.{callee_of}
+use Rattle.mir_ir.specs.Declares.{theory_in}
 use Rattle.mir_ir.specs.WellFormed.{IsTyped, Labelling, MeetsMoveRows}
 use Rattle.mir_machine.specs.Good.{Each, Good}
 use Rattle.prophecy_logic.specs.Graph.{Setting, AreObligations}
@@ -26,17 +31,34 @@ use Rattle.mir_ir.specs.Names.{LocalsAreNamed, ContractSpeaks, HeadsSpeak}
 use Rattle.prophecy_sim.specs.declared.node.Node.{Node}
 use Rattle.prophecy_sim.specs.declared.node.Node.TheVariants.{Function}
 
--- an integer type, `bool`, or the type of `()`
-abbrev pub IsScalar : Ty → Type 0
-IsScalar (int k) = Unit {0}
-IsScalar bool = Unit {0}
-IsScalar (tuple no_tys) = Unit {0}
-IsScalar _ = ⊥
+-- no value of the type has a reference or a closure in it, where none of these declared types has: integers, truth values, tuples, boxes, and those
+-- types, which the bodies declare. (No tree of the machine is of an unbounded integer's type, or of a parameter's)
+abbrev mutual
+  pub IsOwned : Bodies → (AdtId → Bool) → Ty → Type 0
+  IsOwned bodies owns (int k) = Unit {0}
+  IsOwned bodies owns bool = Unit {0}
+  IsOwned bodies owns math_int = Unit {0}
+  IsOwned bodies owns (tuple ts) = AreOwned bodies owns ts
+  IsOwned bodies owns (adt d rs ts) = (owns d ≡ true) × ((decl : AdtDecl) × (slice_get bodies.decls d.0 ≡ Some decl)) × AreOwned bodies owns ts
+  IsOwned bodies owns (boxed t) = IsOwned bodies owns t
+  IsOwned bodies owns (param n) = Unit {0}
+  IsOwned bodies owns _ = ⊥
 
--- every local is an integer, a truth value or `()`, and loops are entered at their heads
-pub record IsSimple (b : Body) : Type 0 where
+  pub AreOwned : Bodies → (AdtId → Bool) → Tys → Type 0
+  AreOwned bodies owns no_tys = Unit {0}
+  AreOwned bodies owns (and_ty t ts) = IsOwned bodies owns t × AreOwned bodies owns ts
+
+-- these declared types have none: so are their fields
+abbrev pub HaveOwnedFields : Bodies → (AdtId → Bool) → Type 0
+HaveOwnedFields bodies owns = (d : AdtId) (k : ℕ) (fs : Tys) → owns d ≡ true → declared (theory_in bodies) d k ≡ Some fs → AreOwned bodies owns fs
+
+-- the values of locals hold no references, each local's type has a value, and loops are entered at their heads
+pub record IsSimple (bodies : Bodies) (b : Body) : Type 0 where
   pub names : LocalsAreNamed b
-  pub scalars : (x : ℕ) (ty : Ty) → slice_get b.locals x ≡ Some ty → IsScalar ty
+  pub owns : AdtId → Bool
+  pub fields : HaveOwnedFields bodies owns
+  pub owned : (x : ℕ) (ty : Ty) → slice_get b.locals x ≡ Some ty → IsOwned bodies owns ty
+  pub valued : (x : ℕ) (ty : Ty) → slice_get b.locals x ≡ Some ty → (v : Value) × HasSort (declared (theory_in bodies)) v (instance no_tys ty)
   pub laid_out : IsLaidOut b
 
 -- an invariant speaks of parameters, and of locals that are initialised at its head; what is initialised there is not gone
@@ -63,7 +85,7 @@ pub record IsFunction (p : Program) (at : Labelling) (n : ℕ) (b : Body) : Type
   pub moves : MeetsMoveRows b at
   pub contract : Contract
   pub is_contract : slice_get p.contracts.of n ≡ Some contract
-  pub simple : IsSimple b
+  pub simple : IsSimple p.bodies b
   pub speaks : ContractSpeaks b contract
   pub heads : HeadsSpeakOf b contract (p.gone n) at
 

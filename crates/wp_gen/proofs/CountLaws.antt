@@ -1,5 +1,5 @@
 -- Laws of the number of goals.
-use Rattle.std.proofs.Common.{◌≡◌, ◌∙◌, ◌⊎◌, inl, inr, refl, sym, ap, ap₂, subst, ℕ, zero, suc, ◌+◌, ◌≤◌, true, false, List, [], ◌∷◌, ◌++◌, length, length-append, map, drop, Option, Some, None, slice_get, arith}
+use Rattle.std.proofs.Common.{◌≡◌, ◌∙◌, ◌⊎◌, inl, inr, refl, sym, ap, ap₂, subst, ℕ, zero, suc, ◌+◌, ◌<◌, ◌≤◌, true, false, List, [], ◌∷◌, ◌++◌, length, length-append, map, take, drop, get_or, Option, Some, None, slice_get, arith}
 use Rattle.std.proofs.lemmas.List.{length-map, drop_all}
 use Rattle.text_core.specs.declared.refusal.Cause.{Cause}
 use Rattle.text_core.specs.declared.refusal.Kind.{Kind}
@@ -15,7 +15,7 @@ use Rattle.mir_ir.specs.declared.place.Place.{Place}
 use Rattle.mir_ir.specs.declared.statement.Statement.{Statement}
 use Rattle.mir_ir.specs.declared.terminator.Callee.{Callee}
 use Rattle.mir_ir.specs.Callees.{contract_at}
-use Rattle.mir_ir.specs.declared.terminator.TerminatorKind.TheVariants.{Goto, If, Call, Return, Panic}
+use Rattle.mir_ir.specs.declared.terminator.TerminatorKind.TheVariants.{Goto, If, Switch, Call, Return, Panic}
 use Rattle.mir_ir.specs.declared.body.Block.{Block}
 use Rattle.mir_ir.specs.declared.body.Body.{Body}
 use Rattle.mir_ir.specs.declared.body.Head.{Head}
@@ -24,15 +24,15 @@ use Rattle.mir_ir.specs.Body.{block_in}
 use Rattle.mir_ir.specs.Layout.{among, targets, Leads, on, back, IsLaidOut}
 use Rattle.prophecy_logic.specs.declared.command.Command.{Command}
 use Rattle.prophecy_logic.specs.declared.goal.Goal.{Goal}
-use Rattle.prophecy_logic.specs.Graph.{Setting, Within, by_statement, by_end, Ends, Arrives, numbered, goals_of_walk, AreObligations}
+use Rattle.prophecy_logic.specs.Graph.{Setting, Within, by_statement, by_end, Ends, Sides, no_side, last_side, one_side, Arrives, numbered, goals_of_walk, AreObligations}
 use Rattle.prophecy_logic.specs.Walk.{seen_before, each_goal, goals_at_return, goals_of_call, at_answer, at_arguments, goal_before, Walk, stop, row, fork, owed, paths}
 use Rattle.prophecy_logic.proofs.ArriveLaws.{either}
 use Rattle.prophecy_logic.proofs.Exists.{walks_exist}
 use Rattle.prophecy_logic.proofs.Steps.{some_same, ends_by, comes_by}
-use Rattle.wp_gen.specs.Count.{IsRoomLeft, LeavesRoom, LeavesRoomBehind, count, goals_within, goals_of_head, IsFrom, IsAlong, IsAtEnd, AreSplit, LeavesRoomBefore, AreSomeObligations, HaveObligations}
+use Rattle.wp_gen.specs.Count.{IsRoomLeft, LeavesRoom, LeavesRoomBehind, CountsSides, LeavesRoomAlong, count, goals_within, goals_of_head, IsFrom, IsAlong, IsAtEnd, AreSplit, LeavesRoomBefore, AreSomeObligations, HaveObligations}
 use Rattle.wp_gen.specs.Limits.{HasFewObligations, most_paths, most_obligations}
-use Rattle.wp_gen.specs.Paths.{passed, MayStand, HasPaths, last_target}
-use Rattle.wp_gen.proofs.PathLaws.{IsEnteredAt, enters_later, enters_entry, counts_agree, may_stop, walks_are_counted}
+use Rattle.wp_gen.specs.Paths.{passed, MayStand, HasPaths, last_of, before_last, last_target}
+use Rattle.wp_gen.proofs.PathLaws.{take_one, rest_of, all_taken, IsEnteredAt, enters_later, enters_entry, counts_agree, may_stop, walks_are_counted}
 
 -- ---- lengths
 
@@ -129,6 +129,43 @@ statements_are_many w l k room is many v (heads, k', may, within) =
     let t = through_statements within k is in
     same_room room (goals_within w.body k.statements + count t.left) (count v) None (sym t.many) (none_left room (goals_within w.body k.statements) (count t.left) many)
 
+-- ---- along some edges
+
+-- goals along some edges, and along one more or others
+sides_apart : (w : Setting) (heads ms rest : List Label) (n : ℕ) → CountsSides w heads (ms ++ rest) n → (i : ℕ) × (j : ℕ) × CountsSides w heads ms i × CountsSides w heads rest j × (i + j ≡ n)
+sides_apart w heads [] rest n h = (0, n, refl, h, omega arith)
+sides_apart w heads (m ∷ ms) rest n (u, j, a, others, sum) =
+    let r = sides_apart w heads ms rest j others in
+    (count u + r.0, r.1, (u, r.0, a, r.2, refl), r.3, omega (arith, r.4, sum))
+
+pub along_none : (w : Setting) (l : Label) (room : ℕ) → LeavesRoomAlong w l [] room (Some room)
+along_none w l room = λ heads k n may none. omega (arith, none)
+
+pub along_more : (w : Setting) (l m : Label) (ms : List Label) (room left : ℕ) (r : Option ℕ) → LeavesRoomAlong w l ms room (Some left) → LeavesRoomBehind (IsAlong w l m) left r → LeavesRoomAlong w l (ms ++ m ∷ []) room r
+along_more w l m ms room left r first one = λ heads k n may sides.
+    let s = sides_apart w heads ms (m ∷ []) n sides in
+    let (u, j, a, none, sum) = s.3 in
+    let total : s.0 + count u ≡ n = omega (arith, s.4, sum, none) in
+    same_room room (s.0 + count u) n r total (both_left room s.0 (count u) left r (first heads k s.0 may s.2) (one u (heads, k, may, a)))
+
+pub along_many : (w : Setting) (l : Label) (ms rest : List Label) (room : ℕ) → LeavesRoomAlong w l ms room None → LeavesRoomAlong w l (ms ++ rest) room None
+along_many w l ms rest room first = λ heads k n may sides.
+    let s = sides_apart w heads ms rest n sides in
+    same_room room (s.0 + s.1) n None s.4 (none_left room s.0 s.1 (first heads k s.0 may s.2))
+
+pub along_next : (w : Setting) (l : Label) (ls : List Label) (i : ℕ) (x : Label) (room left : ℕ) (r : Option ℕ) → i < length ls → x ≡ get_or ls i x → LeavesRoomAlong w l (take i ls) room (Some left) → LeavesRoomBehind (IsAlong w l x) left r
+    → LeavesRoomAlong w l (take (i + 1) ls) room r
+along_next w l ls i x room left r below is before one = subst (λ ms. LeavesRoomAlong w l ms room r) (sym (take_one ls i x below is)) (along_more w l x (take i ls) room left r before one)
+
+pub along_too_many : (w : Setting) (l : Label) (ls : List Label) (i : ℕ) (x : Label) (room left : ℕ) → i < length ls → x ≡ get_or ls i x → LeavesRoomAlong w l (take i ls) room (Some left) → LeavesRoomBehind (IsAlong w l x) left None
+    → LeavesRoomAlong w l ls room None
+along_too_many w l ls i x room left below is before one =
+    let r = rest_of ls i x below is in
+    subst (λ ms. LeavesRoomAlong w l ms room None) (sym r.1) (along_many w l (take i ls ++ x ∷ []) r.0 room (along_more w l x (take i ls) room left None before one))
+
+pub along_all : (w : Setting) (l : Label) (ls : List Label) (i : ℕ) (room : ℕ) (r : Option ℕ) → length ls ≤ i → LeavesRoomAlong w l (take i ls) room r → LeavesRoomAlong w l ls room r
+along_all w l ls i room r past h = subst (λ ms. LeavesRoomAlong w l ms room r) (all_taken ls i past) h
+
 module _ (w : Setting) (l : Label) (k : Block) where
   pub goto_before : (next : Label) (room : ℕ) → k.end.kind ≡ Goto next → LeavesRoomBefore w l (last_target k.end.kind) (IsAtEnd w l k) room (Some room)
   goto_before next room e = λ v at_end. (
@@ -147,6 +184,27 @@ module _ (w : Setting) (l : Label) (k : Block) where
   branch_before o on_true on_false room None e one = λ v at_end.
       let h = ends_by at_end.2 (If o on_true on_false) e in
       same_room room (count h.0 + count h.2) (count v) None (omega (arith, ap count h.4)) (none_left room (count h.0) (count h.2) (one h.0 (at_end.0, k, at_end.1, h.1)))
+
+  -- the sides of a switch, before the last and the last
+  sides_split : (heads : List Label) (p : Place) (i : ℕ) (ls : List Label) (v : Walk) → Sides w heads p i ls v → MayStand w.body heads l k → (many : ℕ) × CountsSides w heads (before_last ls) many × AreSplit w l (last_of ls) many v
+  sides_split heads p i ls v no_side may = (0, refl, refl)
+  sides_split heads p i ls v (last_side {u = u} a) may = (0, refl, (u, (heads, k, may, a), refl))
+  sides_split heads p i ls v (one_side {m = m} {ms = ms} {u = u} {v = x} a rest) may =
+      let r = sides_split heads p (i + 1) (m ∷ ms) x rest may in
+      (count u + r.0, (u, r.0, a, r.1, refl), split_more w l (last_of (m ∷ ms)) r.0 (count u) x v r.2 (let sum : 0 + count u + count x ≡ count u + count x = omega arith in sum))
+
+  split_many : (last : Option Label) (many : ℕ) (v : Walk) → AreSplit w l last many v → (more : ℕ) × (many + more ≡ count v)
+  split_many None many v h = (0, omega (arith, h))
+  split_many (Some m) many v (u, along, h) = (count u, sym h)
+
+  pub switch_before : (p : Place) (ls : List Label) (room : ℕ) (r : Option ℕ) → k.end.kind ≡ Switch p ls → LeavesRoomAlong w l (before_last ls) room r → LeavesRoomBefore w l (last_target k.end.kind) (IsAtEnd w l k) room r
+  switch_before p ls room (Some left) e along = λ v at_end.
+      let h = sides_split at_end.0 p 0 ls v (ends_by at_end.2 (Switch p ls) e) at_end.1 in
+      (h.0, along at_end.0 k h.0 at_end.1 h.1, subst (λ kind. AreSplit w l (last_target kind) h.0 v) (sym e) h.2)
+  switch_before p ls room None e along = λ v at_end.
+      let h = sides_split at_end.0 p 0 ls v (ends_by at_end.2 (Switch p ls) e) at_end.1 in
+      let more = split_many (last_of ls) h.0 v h.2 in
+      same_room room (h.0 + more.0) (count v) None more.1 (none_left room h.0 more.0 (along at_end.0 k h.0 at_end.1 h.1))
 
   -- a call has as many goals as the callee's contract has `requires`
   record OverCall (heads : List Label) (next : Label) (d : Contract) (v : Walk) : Type 0 where

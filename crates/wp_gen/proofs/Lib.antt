@@ -3,3 +3,4 @@ pub mod GoalLists
 pub mod WalkLaws
 pub mod CountLaws
 pub mod MarkLaws
+pub mod Variants

@@ -13,27 +13,30 @@ use Rattle.mir_ir.specs.declared.place.Operand.{Operand}
 use Rattle.mir_ir.specs.declared.place.Place.{Place}
 use Rattle.mir_ir.specs.declared.terminator.Callee.{Callee}
 use Rattle.mir_ir.specs.declared.terminator.Terminator.{Terminator}
-use Rattle.mir_ir.specs.declared.terminator.TerminatorKind.TheVariants.{Goto, If, Call, Return, Panic}
+use Rattle.mir_ir.specs.declared.terminator.TerminatorKind.TheVariants.{Goto, If, Switch, Call, Return, Panic}
 use Rattle.mir_ir.specs.declared.body.Block.{Block}
 use Rattle.mir_ir.specs.declared.body.Head.{Head}
 use Rattle.mir_ir.specs.Body.{block_in}
 use Rattle.mir_ir.specs.Layout.{among, targets}
 use Rattle.prophecy_logic.specs.declared.command.Command.{Command}
 use Rattle.prophecy_logic.specs.declared.goal.Goal.{Goal}
-use Rattle.prophecy_logic.specs.Graph.{Setting, start_of, Within, by_statement, by_end, Ends, goto, branch, call, return, panic, Arrives, plain, first, again, numbered, AreObligations}
+use Rattle.prophecy_logic.specs.Graph.{Setting, start_of, Within, by_statement, by_end, Ends, goto, branch, switch, call, return, panic, Sides, no_side, last_side, one_side, Arrives, plain, first, again, numbered, AreObligations}
 use Rattle.prophecy_logic.specs.Loop.{head_commands}
 use Rattle.prophecy_logic.specs.Row.{goals_of, commands_of}
 use Rattle.prophecy_logic.specs.State.{State, start, Matches, Leads, closed_goal, closed_goals, Adds, listed}
-use Rattle.prophecy_logic.specs.Walk.{seen_before, goals_at_return, goals_at_panic, where_true, where_false, goals_at_entry, goals_after_turn, goals_of_call, call_commands, entry_commands, Walk, stop, row, fork, met}
+use Rattle.prophecy_logic.specs.Walk.{seen_before, goals_at_return, goals_at_panic, where_true, where_false, where_variant, goals_at_entry, goals_after_turn, goals_of_call, call_commands, entry_commands, Walk, stop, row, fork, met}
 use Rattle.prophecy_logic.specs.Walkable.{CanWalk, MayArrive, MayWalk}
 use Rattle.prophecy_logic.proofs.Ahead.{before_append, begins}
-use Rattle.prophecy_logic.proofs.ArriveLaws.{room, next_arrival, head_block}
+use Rattle.prophecy_logic.proofs.ArriveLaws.{room, next_arrival, head_block, switch_names}
 use Rattle.prophecy_logic.proofs.Prefixes.{goals_are_seen_before}
+use Rattle.prophecy_logic.proofs.Steps.{some_same}
+use Rattle.wp_gen.proofs.PathLaws.{last_among}
+use Rattle.wp_gen.specs.Paths.{last_of, before_last}
 use Rattle.wp_gen.specs.declared.reached.Reached.{Reached}
 use Rattle.wp_gen.specs.declared.reached.Spot.{Spot}
 use Rattle.wp_gen.specs.declared.reached.Next.{Next}
 use Rattle.wp_gen.specs.declared.reached.Next.TheVariants.{On, Done}
-use Rattle.wp_gen.specs.Reached.{IsOver, GoesOn, AreStatements, Passes, IsOverCall, AreMet, blocks_from, ahead, StandsAtEnd, ComesToEnd, LeadsTo, GoesTo}
+use Rattle.wp_gen.specs.Reached.{IsOver, AreSideGoals, IsOverSides, IsBack, IsAtLastSide, GoesOn, AreStatements, Passes, IsOverCall, AreMet, blocks_from, ahead, StandsAtEnd, ComesToEnd, LeadsTo, GoesTo}
 
 -- ---- goals of rows
 
@@ -109,6 +112,86 @@ branch_walks w heads end o l l' from true_side back false_side goals all is same
     second : Adds from.state goals (seen_before (where_false w.body o) (met two.left)) all
     second = subst (λ s. Adds s goals (seen_before (where_false w.body o) (met two.left)) all) same
         (subst (λ gs. Adds back.state gs (seen_before (where_false w.body o) (met two.left)) all) goals_are (over_then [] (where_false w.body o) back false_side (met two.left) all to_false two.adds))
+
+-- ---- switches
+
+pub adds_none : (s : State) (goals : List Goal) → Adds s goals [] goals
+adds_none s goals = record { adds = λ cs m. sym (append-nil goals) }
+
+-- one side more
+pub side_goals_more : (w : Setting) (heads : List Label) (p : Place) (k n : ℕ) (ls : List Label) (gs : List Goal) (m : Label) (u : Walk) → AreSideGoals w heads p k ls gs → Arrives w heads m u → n ≡ k + length ls
+    → AreSideGoals w heads p k (ls ++ m ∷ []) (gs ++ seen_before (where_variant w.body w.decls p n) (met u))
+side_goals_more w heads p k n [] gs m u none a is =
+    let same : n ≡ k = omega (arith, is) in
+    (u, [], a, refl, ap (λ xs. xs ++ seen_before (where_variant w.body w.decls p n) (met u)) none ∙ ap (λ i. seen_before (where_variant w.body w.decls p i) (met u)) same ∙ sym (append-nil (seen_before (where_variant w.body w.decls p k) (met u))))
+side_goals_more w heads p k n (l ∷ ls) gs m u (front, rest, arrives, others, are) a is = (
+  front,
+  rest ++ seen_before (where_variant w.body w.decls p n) (met u),
+  arrives,
+  side_goals_more w heads p (k + 1) n ls rest m u others a (omega (arith, is)),
+  ap (λ xs. xs ++ seen_before (where_variant w.body w.decls p n) (met u)) are ∙ append_assoc (seen_before (where_variant w.body w.decls p k) (met front)) rest (seen_before (where_variant w.body w.decls p n) (met u)),
+)
+
+-- over the first sides and one more
+pub over_one_side : (w : Setting) (heads hs : List Label) (p : Place) (n : ℕ) (ls : List Label) (state : State) (goals gs mid after : List Goal) (m : Label) (from side : Reached) → AreSideGoals w heads p 0 ls gs → n ≡ length ls
+    → Adds state goals gs mid → from.state ≡ state → from.goals.items ≡ mid → IsOver [] (where_variant w.body w.decls p n) from side → hs ≡ heads → GoesOn (Arrives w hs m) side after
+    → (all : List Goal) × AreSideGoals w heads p 0 (ls ++ m ∷ []) all × Adds state goals all after
+over_one_side w heads hs p n ls state goals gs mid after m from side are is adds same_state same_goals over same_heads h =
+    let a : Arrives w heads m h.left = subst (λ x. Arrives w x m h.left) same_heads h.is_left in
+    let second : Adds from.state from.goals.items (seen_before (where_variant w.body w.decls p n) (met h.left)) after = over_then [] (where_variant w.body w.decls p n) from side (met h.left) after over h.adds in
+    let there : Adds state mid (seen_before (where_variant w.body w.decls p n) (met h.left)) after =
+    subst (λ s. Adds s mid (seen_before (where_variant w.body w.decls p n) (met h.left)) after) same_state (subst (λ xs. Adds from.state xs (seen_before (where_variant w.body w.decls p n) (met h.left)) after) same_goals second) in
+    (gs ++ seen_before (where_variant w.body w.decls p n) (met h.left), side_goals_more w heads p 0 n ls gs m h.left are a (omega (arith, is)), adds_both state goals gs mid (seen_before (where_variant w.body w.decls p n) (met h.left)) after adds there)
+
+-- the sides of a switch, from those before the last and the last
+sides_built : (w : Setting) (heads : List Label) (p : Place) (k n : ℕ) (ls : List Label) (gs : List Goal) (m : Label) (u : Walk) → last_of ls ≡ Some m → AreSideGoals w heads p k (before_last ls) gs → n ≡ k + length (before_last ls) → Arrives w heads m u
+    → (v : Walk) × Sides w heads p k ls v × (met v ≡ gs ++ seen_before (where_variant w.body w.decls p n) (met u))
+sides_built w heads p k n [] gs m u e are is a = absurd (let none : None ≡ Some m = e in cc)
+sides_built w heads p k n (l ∷ []) gs m u e none is a =
+    let same : n ≡ k = omega (arith, is) in
+    let label : m ≡ l = sym (some_same e) in (
+      row [] (where_variant w.body w.decls p k) u,
+      last_side (subst (λ x. Arrives w heads x u) label a),
+      ap (λ i. seen_before (where_variant w.body w.decls p i) (met u)) (sym same) ∙ ap (λ xs. xs ++ seen_before (where_variant w.body w.decls p n) (met u)) (sym none),
+    )
+sides_built w heads p k n (l ∷ x ∷ xs) gs m u e (front, rest, arrives, others, are) is a =
+    let r = sides_built w heads p (k + 1) n (x ∷ xs) rest m u e others (omega (arith, is)) a in (
+      fork (row [] (where_variant w.body w.decls p k) front) r.0,
+      one_side arrives r.1,
+      ap (λ ys. seen_before (where_variant w.body w.decls p k) (met front) ++ ys) r.2
+          ∙ sym (append_assoc (seen_before (where_variant w.body w.decls p k) (met front)) rest (seen_before (where_variant w.body w.decls p n) (met u)))
+          ∙ ap (λ ys. ys ++ seen_before (where_variant w.body w.decls p n) (met u)) (sym are),
+    )
+
+pub switch_walks : (w : Setting) (heads : List Label) (end : Terminator) (p : Place) (ls : List Label) (m : Label) (from back side : Reached) (all : List Goal) → end.kind ≡ Switch p ls → last_of ls ≡ Some m → IsOverSides w heads p (before_last ls) from back
+    → IsOver [] (where_variant w.body w.decls p (length (before_last ls))) back side → GoesOn (Arrives w heads m) side all → GoesOn (Ends w heads end) from all
+switch_walks w heads end p ls m from back side all is is_last over to h =
+    let n : ℕ = length (before_last ls) in
+    let others : List Goal = seen_before (where_variant w.body w.decls p n) (met h.left) in
+    let v = sides_built w heads p 0 n ls over.goals m h.left is_last over.are (omega arith) h.is_left in
+    let second : Adds from.state back.goals.items others all = subst (λ s. Adds s back.goals.items others all) over.state (over_then [] (where_variant w.body w.decls p n) back side (met h.left) all to h.adds) in
+    record {
+      left = v.0;
+      is_left = switch p ls is v.1;
+      adds = subst (λ gs. Adds from.state from.goals.items gs all) (sym v.2) (adds_both from.state from.goals.items over.goals back.goals.items others all over.adds second);
+    }
+
+no_label : (ls : List Label) → last_of ls ≡ None → ls ≡ []
+no_label [] e = refl
+no_label (l ∷ []) e = absurd (let some : Some l ≡ None = e in cc)
+no_label (l ∷ m ∷ ms) e = absurd (let none : m ∷ ms ≡ [] = no_label (m ∷ ms) e in cc)
+
+-- a switch over no variants
+pub empty_switch_walks : (w : Setting) (heads : List Label) (end : Terminator) (p : Place) (ls : List Label) (from back : Reached) → end.kind ≡ Switch p ls → last_of ls ≡ None → IsOverSides w heads p (before_last ls) from back
+    → GoesOn (Ends w heads end) from back.goals.items
+empty_switch_walks w heads end p ls from back is none over =
+    let empty : ls ≡ [] = no_label ls none in
+    let no_goals : over.goals ≡ [] = subst (λ xs. AreSideGoals w heads p 0 (before_last xs) over.goals) empty over.are in
+    record {
+      left = stop;
+      is_left = switch p ls is (subst (λ xs. Sides w heads p 0 xs stop) (sym empty) no_side);
+      adds = subst (λ gs. Adds from.state from.goals.items gs back.goals.items) no_goals over.adds;
+    }
 
 pub call_walks : (w : Setting) (heads : List Label) (end : Terminator) (p : Place) (callee : Callee) (types : List Ty) (args args' : List Operand) (l : Label) (from to : Reached) (all : List Goal) → end.kind ≡ Call p callee types args l →
     args' ≡ args → IsOverCall w end.span p callee args' from to → GoesOn (Arrives w heads l) to all → GoesOn (Ends w heads end) from all
@@ -208,6 +291,15 @@ next_leads w IsLeft from heads l k m to can may named heads_are is walks =
       nearer = subst (λ x. ahead w.body.blocks to.heads.items x < blocks_from w.body.blocks l) (sym is) n.1;
       walks = λ all h. walks all (subst (λ x. GoesOn (Arrives w heads x) to.reached all) is (subst (λ hs. GoesOn (Arrives w hs to.label) to.reached all) heads_are h));
     }
+
+-- from a switch, its sides but the last having been walked
+pub switch_goes : (w : Setting) (from back : Spot) (k : Block) (p : Place) (ls : List Label) (next : Next) → CanWalk w → MayWalk w from.heads.items from.label k → k.end.kind ≡ Switch p ls → IsBack w p (before_last ls) from back → IsAtLastSide w p ls back next
+    → GoesTo w (Ends w from.heads.items k.end) from.reached (blocks_from w.body.blocks from.label) next
+switch_goes w from back k p ls (On to) can may is (same, label, over) (heads, is_last, side) =
+    next_leads w (Ends w from.heads.items k.end) from.reached from.heads.items from.label k to.label to can may (switch_names k.end.kind p ls to.label is (last_among ls to.label is_last)) (heads ∙ same) refl
+    (λ all h. switch_walks w from.heads.items k.end p ls to.label from.reached back.reached to.reached all is is_last over side h)
+switch_goes w from back k p ls (Done all) can may is (same, label, over) (none, goals) =
+    subst (λ gs. GoesOn (Ends w from.heads.items k.end) from.reached gs) (sym goals) (empty_switch_walks w from.heads.items k.end p ls from.reached back.reached is none over)
 
 -- ---- from an arrival to the next
 

@@ -53,6 +53,15 @@ IsAlong w l m v = (heads : List Label) × (k : Block) × MayStand w.body heads l
 abbrev pub IsAtEnd : Setting → Label → Block → Walk → Type 0
 IsAtEnd w l k v = (heads : List Label) × MayStand w.body heads l k × Ends w heads k.end v
 
+-- so many goals along the edges to these labels
+abbrev pub CountsSides : Setting → List Label → List Label → ℕ → Type 0
+CountsSides w heads [] n = n ≡ 0
+CountsSides w heads (m ∷ ms) n = (u : Walk) × (j : ℕ) × Arrives w heads m u × CountsSides w heads ms j × (n ≡ count u + j)
+
+-- what is left of the room after the goals along the edges from the block of l to these labels
+abbrev pub LeavesRoomAlong : Setting → Label → List Label → ℕ → Option ℕ → Type 0
+LeavesRoomAlong w l ms room left = (heads : List Label) (k : Block) (n : ℕ) → MayStand w.body heads l k → CountsSides w heads ms n → IsRoomLeft room n left
+
 -- the goals are so many, and behind them those along the last edge from the block of l, if there is one
 abbrev pub AreSplit : Setting → Label → Option Label → ℕ → Walk → Type 0
 AreSplit w l None many v = count v ≡ many

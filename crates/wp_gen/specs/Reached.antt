@@ -1,5 +1,5 @@
 -- Where a walk stands, and what it does from there.
-use Rattle.std.specs.Prelude.{◌≡◌, ℕ, ◌-◌, ◌<◌, cond, false, List, [], length, Some, slice_get}
+use Rattle.std.specs.Prelude.{◌≡◌, ℕ, ◌+◌, ◌-◌, ◌<◌, cond, false, List, [], ◌∷◌, ◌++◌, length, Some, None, slice_get}
 use Rattle.text_core.specs.declared.span.Span.{Span}
 use Rattle.logic_term.specs.declared.kinds.Label.{Label}
 use Rattle.logic_term.specs.declared.obligation.Contract.{Contract}
@@ -17,8 +17,9 @@ use Rattle.prophecy_logic.specs.declared.goal.Goal.{Goal}
 use Rattle.mir_ir.specs.Layout.{among, place_of}
 use Rattle.prophecy_logic.specs.Graph.{Setting, start_of, Within, Ends, Arrives, goals_of_walk}
 use Rattle.prophecy_logic.specs.State.{Adds, Leads, closed_goals}
-use Rattle.prophecy_logic.specs.Walk.{goals_of_call, call_commands, Walk, met}
+use Rattle.prophecy_logic.specs.Walk.{seen_before, where_variant, goals_of_call, call_commands, Walk, met}
 use Rattle.prophecy_logic.specs.Walkable.{MayArrive, MayWalk}
+use Rattle.wp_gen.specs.Paths.{last_of, before_last}
 use Rattle.wp_gen.specs.declared.reached.Reached.{Reached}
 use Rattle.wp_gen.specs.declared.reached.Spot.{Spot}
 use Rattle.wp_gen.specs.declared.reached.Next.{Next}
@@ -79,6 +80,28 @@ pub record StandsAtEnd (w : Setting) (IsLeft : Walk → Type 0) (from : Reached)
 abbrev pub ComesToEnd : Setting → Spot → Block → Next → Type 0
 ComesToEnd w from k (On to) = (among from.label from.heads.items ≡ false) × StandsAtEnd w (Arrives w from.heads.items from.label) from.reached from.label k to
 ComesToEnd w from k (Done all) = GoesOn (Arrives w from.heads.items from.label) from.reached all.items
+
+-- goals that are met on the sides of a switch to these labels, for the variants from k on
+abbrev pub AreSideGoals : Setting → List Label → Place → ℕ → List Label → List Goal → Type 0
+AreSideGoals w heads p k [] gs = gs ≡ []
+AreSideGoals w heads p k (l ∷ ls) gs = (u : Walk) × (rest : List Goal) × Arrives w heads l u × AreSideGoals w heads p (k + 1) ls rest × (gs ≡ seen_before (where_variant w.body w.decls p k) (met u) ++ rest)
+
+-- over these sides of a switch, and back with their goals
+pub record IsOverSides (w : Setting) (heads : List Label) (p : Place) (ls : List Label) (from to : Reached) : Type 0 where
+  pub goals : List Goal
+  pub are : AreSideGoals w heads p 0 ls goals
+  pub adds : Adds from.state from.goals.items goals to.goals.items
+  pub state : to.state ≡ from.state
+
+-- back where the walk stood
+abbrev pub IsBack : Setting → Place → List Label → Spot → Spot → Type 0
+IsBack w p ls from to = (to.heads.items ≡ from.heads.items) × (to.label ≡ from.label) × IsOverSides w from.heads.items p ls from.reached to.reached
+
+-- at the last side of a switch, or with all goals, where it has none
+abbrev pub IsAtLastSide : Setting → Place → List Label → Spot → Next → Type 0
+IsAtLastSide w p ls from (On to) =
+    (to.heads.items ≡ from.heads.items) × (last_of ls ≡ Some to.label) × IsOver [] (where_variant w.body w.decls p (length (before_last ls))) from.reached to.reached
+IsAtLastSide w p ls from (Done all) = (last_of ls ≡ None) × (all.items ≡ from.reached.goals.items)
 
 -- the walk arrives at a block, with fewer blocks ahead, and what it goes on with there is what was left
 pub record LeadsTo (w : Setting) (IsLeft : Walk → Type 0) (from : Reached) (most : ℕ) (to : Spot) : Type 0 where

@@ -7,15 +7,15 @@ ghost use Rattle.mir_ir.specs.declared.body.Block.{Block as BlockValue};
 ghost use Rattle.mir_ir.specs.declared.body.Body.{Body as BodyValue};
 ghost use Rattle.mir_ir.specs.Body.{block_in};
 ghost use Rattle.mir_ir.specs.Layout.{among, targets};
-ghost use Rattle.wp_gen.specs.Count.{IsRoomLeft, LeavesRoom, LeavesRoomBehind, goals_within, goals_of_head, IsFrom, IsAlong, IsAtEnd, LeavesRoomBefore, AreSomeObligations};
+ghost use Rattle.wp_gen.specs.Count.{IsRoomLeft, LeavesRoom, LeavesRoomBehind, LeavesRoomAlong, goals_within, goals_of_head, IsFrom, IsAlong, IsAtEnd, LeavesRoomBefore, AreSomeObligations};
 ghost use Rattle.prophecy_logic.specs.Row.{goals_of, goals_of_kind};
 ghost use Rattle.prophecy_logic.specs.Walk.{each_goal, goals_at_return};
 ghost use Rattle.prophecy_logic.specs.Walkable.{CanWalk};
-ghost use Rattle.wp_gen.specs.Paths.{last_target};
+ghost use Rattle.wp_gen.specs.Paths.{AreTargets, last_target};
 ghost use Rattle.wp_gen.specs.Setting.{setting};
 
 use crate::head::among;
-use crate::paths::last_target;
+use crate::paths::{before_last, last_target};
 use crate::row::{is_signed, kind_of_local, operation};
 use crate::walk::{Walk, contract_at};
 use logic_term::{Contract, Label};
@@ -48,7 +48,8 @@ fn count_of_rvalue(kind: IntKind, rvalue: &Rvalue) -> usize
             Operation::Compared => 0,
         },
         Rvalue::Neg(_) => 1,
-        Rvalue::Use(_) | Rvalue::Not(_) | Rvalue::Widen(_, _) | Rvalue::Make(_, _) => 0,
+        Rvalue::Use(_) | Rvalue::Not(_) | Rvalue::Widen(_, _) => 0,
+        Rvalue::Make(_, _) | Rvalue::BoxNew(_) => 0,
     }
 }
 
@@ -115,8 +116,29 @@ fn along(walk: &Walk<'_>, from: Label, block: &Block, to: Label, room: u32) -> O
     from_block(walk, to, left)
 }
 
+/// What is left of the room after the goals along the edges from the block to labels that its end names.
+#[cycle(count)]
+fn along_each(
+    walk: &Walk<'_>,
+    from: Label,
+    block: &Block,
+    labels: &[Label],
+    room: u32,
+) -> Option<u32>
+    requires can { CanWalk (setting walk.now) }
+    requires here { block_in walk.now.body.now.blocks from ≡ Some block.now }
+    requires edges { AreTargets labels.now block.now.end.kind }
+    ensures { LeavesRoomAlong (setting walk.now) from labels.now room result }
+{
+    let mut left = room;
+    for to in labels {
+        left = along(walk, from, block, *to, left)?;
+    }
+    Some(left)
+}
+
 /// What is left of the room after the goals at the block's end but those along its last edge: of a call, of the first side of a branch, of
-/// a return, or of a panic.
+/// the sides of a switch but the last, of a return, or of a panic.
 #[cycle(count)]
 fn after_end(walk: &Walk<'_>, label: Label, block: &Block, room: u32) -> Option<u32>
     requires can { CanWalk (setting walk.now) }
@@ -126,6 +148,10 @@ fn after_end(walk: &Walk<'_>, label: Label, block: &Block, room: u32) -> Option<
     match &block.end.kind {
         TerminatorKind::Goto(_) => Some(room),
         TerminatorKind::If(_, yes, _) => along(walk, label, block, *yes, room),
+        TerminatorKind::Switch(_, labels) => {
+            let labels = before_last(labels.as_slice());
+            along_each(walk, label, block, labels, room)
+        }
         TerminatorKind::Call(_, callee, _, _, _) => {
             let contract = contract_at(walk.contracts, *callee);
             after(room, contract.pre.len())

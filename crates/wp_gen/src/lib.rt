@@ -12,6 +12,7 @@ mod paths;
 mod reached;
 mod row;
 mod step;
+mod variant;
 mod walk;
 
 pub use count::{OBLIGATIONS, room_after};

@@ -71,6 +71,7 @@ fn mark_rvalue(marks: &mut [bool], rvalue: &Rvalue)
         Rvalue::Not(operand) => mark_operand(marks, operand),
         Rvalue::Widen(operand, _) => mark_operand(marks, operand),
         Rvalue::Make(_, operands) => mark_operands(marks, operands.as_slice()),
+        Rvalue::BoxNew(operand) => mark_operand(marks, operand),
     }
 }
 
@@ -96,6 +97,7 @@ fn mark_end(marks: &mut [bool], end: &TerminatorKind)
         }
         TerminatorKind::Goto(_) => {}
         TerminatorKind::Panic(_) => {}
+        TerminatorKind::Switch(_, _) => {}
         TerminatorKind::If(condition, _, _) => mark_operand(marks, condition),
         // the answer is moved out of local 0
         TerminatorKind::Return => mark(marks, 0),

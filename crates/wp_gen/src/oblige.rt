@@ -21,7 +21,11 @@ use std::alloc::Global;
 use text_core::{Items, Limit, LimitKind, Name, NoMemory, PassError, Text};
 
 /// Each parameter has some value of its type.
-fn parameters(alloc: Global, names: &[Name], types: &[Ty]) -> Result<Vec<Command>, NoMemory>
+pub(crate) fn parameters(
+    alloc: Global,
+    names: &[Name],
+    types: &[Ty],
+) -> Result<Vec<Command>, NoMemory>
     ensures { IfOk result (λ v. v.items ≡ parameters names.now types.now) }
 {
     let mut commands = Vec::new(alloc);

@@ -3,7 +3,7 @@ ghost use Rattle.std.specs.Prelude.{◌≡◌, ◌+◌, ◌≤◌, [], true, Som
 ghost use Rattle.mir_ir.specs.Body.{block_in};
 ghost use Rattle.mir_ir.specs.Layout.{among, targets, IsLaidOut};
 ghost use Rattle.mir_ir.specs.declared.body.Block.{Block as BlockValue};
-ghost use Rattle.wp_gen.specs.Paths.{HasPaths, HasMorePaths, last_target, IsLater, CountsAlong, CountsFirst, CountsFrom, IsOne, IsCount};
+ghost use Rattle.wp_gen.specs.Paths.{HasPaths, HasMorePaths, last_of, before_last, last_target, AreTargets, IsLater, CountsAlong, CountsEach, CountsFirst, CountsFrom, IsOne, IsCount};
 
 use crate::head::among;
 use logic_term::Label;
@@ -13,13 +13,31 @@ use text_core::{Limit, LimitKind};
 /// The most paths that a function may have.
 pub const PATHS: u32 = 1024;
 
-/// Where the last edge from a block's end leads, which is the second side of a branch; nowhere from a return or a panic.
+/// The last of the labels.
+#[tactic(auto, using(crate::proofs::PathLaws::last_is))]
+pub(crate) fn last_of(labels: &[Label]) -> Option<Label>
+    ensures { result ≡ last_of labels.now }
+{
+    labels.last().copied()
+}
+
+/// Those before the last.
+#[tactic(auto, using(crate::proofs::PathLaws::before_is))]
+pub(crate) fn before_last(labels: &[Label]) -> &[Label]
+    ensures { result.now ≡ before_last labels.now }
+{
+    labels.split_at(labels.len().saturating_sub(1)).0
+}
+
+/// Where the last edge from a block's end leads, which is the second side of a branch or the last one of a switch; nowhere from a return or
+/// a panic.
 pub(crate) fn last_target(end: &TerminatorKind) -> Option<Label>
     ensures { result ≡ last_target end.now }
 {
     match end {
         TerminatorKind::Goto(next) => Some(*next),
         TerminatorKind::If(_, _, no) => Some(*no),
+        TerminatorKind::Switch(_, labels) => last_of(labels.as_slice()),
         TerminatorKind::Call(_, _, _, _, next) => Some(*next),
         TerminatorKind::Return | TerminatorKind::Panic(_) => None,
     }
@@ -68,7 +86,23 @@ fn along(body: &Body, from: Label, block: &Block, to: Label, room: u32) -> Optio
     from_block(body, to, room)
 }
 
-/// The number of paths on the first side of a branch at the end of the block, none at another end; `None` where it is more than `room`.
+/// The number of paths along the edges from the block to labels that its end names; `None` where it is more than `room`.
+#[cycle(paths)]
+fn along_each(body: &Body, label: Label, block: &Block, labels: &[Label], room: u32) -> Option<u32>
+    requires laid_out { IsLaidOut body.now }
+    requires here { block_in body.now.blocks label ≡ Some block.now }
+    requires edges { AreTargets labels.now block.now.end.kind }
+    ensures { IsCount (CountsEach body.now label labels.now) room result }
+{
+    let mut counted = 0;
+    for to in labels {
+        counted += along(body, label, block, *to, room - counted)?;
+    }
+    Some(counted)
+}
+
+/// The number of paths on the first side of a branch at the end of the block, or on the sides of a switch but the last, none at another end; `None`
+/// where it is more than `room`.
 #[cycle(paths)]
 fn first_side(body: &Body, label: Label, block: &Block, room: u32) -> Option<u32>
     requires laid_out { IsLaidOut body.now }
@@ -77,6 +111,10 @@ fn first_side(body: &Body, label: Label, block: &Block, room: u32) -> Option<u32
 {
     match &block.end.kind {
         TerminatorKind::If(_, yes, _) => along(body, label, block, *yes, room),
+        TerminatorKind::Switch(_, labels) => {
+            let labels = before_last(labels.as_slice());
+            along_each(body, label, block, labels, room)
+        }
         TerminatorKind::Goto(_) => Some(0),
         TerminatorKind::Call(_, _, _, _, _) => Some(0),
         TerminatorKind::Return => Some(0),

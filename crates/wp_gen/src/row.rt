@@ -259,6 +259,7 @@ fn goals_of_kind(
         Rvalue::Not(_) => Ok(Vec::new(alloc)),
         Rvalue::Widen(_, _) => Ok(Vec::new(alloc)),
         Rvalue::Make(_, _) => Ok(Vec::new(alloc)),
+        Rvalue::BoxNew(_) => Ok(Vec::new(alloc)),
     }
 }
 

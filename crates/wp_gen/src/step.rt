@@ -226,6 +226,10 @@ fn of_rvalue(alloc: Global, body: &Body, x: u32, rvalue: &Rvalue) -> Result<Vec<
             let value = Term::made(alloc, *ctor, parts)?;
             one_command(alloc, Command::Set(name_of(body, x), value))
         }
+        Rvalue::BoxNew(a) => {
+            let value = operand_term(alloc, body, a)?;
+            one_command(alloc, Command::Set(name_of(body, x), value))
+        }
     }
 }
 

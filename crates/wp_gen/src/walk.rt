@@ -6,29 +6,33 @@ ghost use Rattle.mir_ir.specs.Callees.{contract_at};
 ghost use Rattle.mir_ir.specs.Layout.{among};
 ghost use Rattle.prophecy_logic.specs.Graph.{start_of, Within, Ends, Arrives};
 ghost use Rattle.prophecy_logic.specs.Loop.{head_commands};
-ghost use Rattle.prophecy_logic.specs.Walk.{at_answer, where_false, goals_at_return, goals_at_panic, goals_at_entry, goals_after_turn};
+ghost use Rattle.prophecy_logic.specs.Walk.{at_answer, where_false, where_variant, goals_at_return, goals_at_panic, goals_at_entry, goals_after_turn};
 ghost use Rattle.prophecy_logic.specs.Walkable.{CanWalk, MayArrive, MayWalk};
+ghost use Rattle.wp_gen.specs.Paths.{AreTargets};
 ghost use Rattle.wp_gen.specs.Setting.{setting};
 ghost use Rattle.prophecy_logic.specs.State.{Adds};
-ghost use Rattle.wp_gen.specs.Reached.{IsOver, GoesOn, StandsAtEnd, ComesToEnd, GoesTo, ahead, blocks_from};
+ghost use Rattle.wp_gen.specs.Reached.{IsOver, IsBack, IsAtLastSide, GoesOn, StandsAtEnd, ComesToEnd, GoesTo, ahead, blocks_from};
 
 use crate::formulas::each_goal;
 use crate::head::{among, head_commands};
+use crate::paths::{before_last, last_of};
 use crate::reached::{
     Next, Reached, Spot, over, over_call, over_statements, to_false_side, to_true_side,
     with_goals_at,
 };
 use crate::row::name_of;
+use crate::variant::where_variant;
 use logic_term::{AdtDecl, Contract, Label, Term};
 use mir_ir::{
-    Block, Body, Callee, Contracts, FnId, Head, Initialised, Operand, Resolves, TerminatorKind,
+    Block, Body, Callee, Contracts, FnId, Head, Initialised, Operand, Place, Resolves,
+    TerminatorKind,
 };
 use prophecy_logic::{Goal, MetGoal, State};
 use std::alloc::Global;
 use text_core::{Kind, NoMemory, Span};
 
 /// What the walk of a body looks up: the contracts of all functions, its own, what may be gone where, which references end where, and
-/// the declared types. So far nothing reads the last two.
+/// the declared types. So far nothing reads which references end.
 #[derive(Clone, Copy)]
 pub struct Walk<'a> {
     pub body: &'a Body,
@@ -255,14 +259,109 @@ fn to_other_side(
     to_false_side(alloc, body, operand, back)
 }
 
-/// From the end of a block to the next arrival on the path, the first side of a branch being walked; or all goals, where the path ends.
+/// A number of 32 bits; want of memory where it is larger.
+fn small(count: usize) -> Result<u32, NoMemory>
+    ensures { IfOk result (λ n. n ≡ count) }
+{
+    if count > u32::MAX as usize {
+        return Err(NoMemory);
+    }
+    Ok(count as u32)
+}
+
+/// To the side of a switch where the place is of the variant.
+fn to_variant(
+    alloc: Global,
+    walk: &Walk<'_>,
+    place: &Place,
+    variant: u32,
+    state: State,
+    goals: Vec<MetGoal>,
+) -> Result<Reached, NoMemory>
+    ensures { IfOk result (IsOver [] (where_variant walk.now.body.now walk.now.decls.now place.now variant) (record { state = state; goals = goals })) }
+{
+    let commands = where_variant(alloc, walk.body, walk.decls, place, variant)?;
+    over(alloc, Reached { state, goals }, &[], commands.as_slice())
+}
+
+/// To the last side of a switch, the others having been walked; or all goals, where there is none.
+fn to_last_side(
+    alloc: Global,
+    walk: &Walk<'_>,
+    place: &Place,
+    labels: &[Label],
+    spot: Spot,
+) -> Result<Next, NoMemory>
+    ensures { IfOk result (IsAtLastSide (setting walk.now) place.now labels.now spot) }
+{
+    let Spot { heads, reached, .. } = spot;
+    let Reached { state, goals } = reached;
+    let Some(label) = last_of(labels) else {
+        return Ok(Next::Done(goals));
+    };
+    let variant = small(before_last(labels).len())?;
+    let reached = to_variant(alloc, walk, place, variant, state, goals)?;
+    Ok(Next::On(Spot {
+        heads,
+        label,
+        reached,
+    }))
+}
+
+/// Over the sides of a switch at the end of the block to these labels, which are its first ones, and back at the end with their goals.
+#[cycle(walk)]
+fn over_sides(
+    alloc: Global,
+    walk: &Walk<'_>,
+    block: &Block,
+    place: &Place,
+    labels: &[Label],
+    spot: Spot,
+) -> Result<Spot, NoMemory>
+    requires can { CanWalk (setting walk.now) }
+    requires here { MayWalk (setting walk.now) spot.heads.items spot.label block.now }
+    requires edges { AreTargets labels.now block.now.end.kind }
+    ensures { IfOk result (IsBack (setting walk.now) place.now labels.now spot) }
+{
+    let Spot {
+        heads,
+        label,
+        reached,
+    } = spot;
+    let Reached { state, goals } = reached;
+    let mut goals = goals;
+    let mut variant: u32 = 0;
+    for to in labels {
+        let side = to_variant(alloc, walk, place, variant, state.share(alloc)?, goals)?;
+        let first = Spot {
+            heads: copied(alloc, heads.as_slice())?,
+            label: *to,
+            reached: side,
+        };
+        goals = arrive(alloc, walk, first)?;
+        variant = variant.checked_add(1).ok_or(NoMemory)?;
+    }
+    let reached = Reached { state, goals };
+    Ok(Spot {
+        heads,
+        label,
+        reached,
+    })
+}
+
+/// From the end of a block to the next arrival on the path, the first side of a branch, and all sides of a switch but the last, being walked; or all
+/// goals, where the path ends.
 #[cycle(walk)]
 fn from_end(alloc: Global, walk: &Walk<'_>, block: &Block, spot: Spot) -> Result<Next, NoMemory>
     requires can { CanWalk (setting walk.now) }
     requires here { MayWalk (setting walk.now) spot.heads.items spot.label block.now }
     ensures { IfOk result (GoesTo (setting walk.now) (Ends (setting walk.now) spot.heads.items block.now.end) spot.reached (blocks_from walk.now.body.now.blocks spot.label)) }
 {
-    let Spot { heads, reached, .. } = spot;
+    let Spot {
+        heads,
+        label,
+        reached,
+    } = spot;
     match &block.end.kind {
         TerminatorKind::Goto(next) => Ok(Next::On(Spot {
             heads,
@@ -284,6 +383,16 @@ fn from_end(alloc: Global, walk: &Walk<'_>, block: &Block, spot: Spot) -> Result
                 label: *no,
                 reached,
             }))
+        }
+        TerminatorKind::Switch(place, labels) => {
+            let labels = labels.as_slice();
+            let spot = Spot {
+                heads,
+                label,
+                reached,
+            };
+            let back = over_sides(alloc, walk, block, place, before_last(labels), spot)?;
+            to_last_side(alloc, walk, place, labels, back)
         }
         TerminatorKind::Call(place, callee, _, args, next) => {
             let args = args.as_slice();
@@ -322,7 +431,7 @@ fn turn(alloc: Global, walk: &Walk<'_>, spot: Spot) -> Result<Next, NoMemory>
 }
 
 /// The goals from the arrival at a block on, behind those that were met. Blocks are walked by a loop; what takes stack is the first side of
-/// a branch, so no more calls are pending than the body has paths.
+/// a branch, and each side of a switch but the last, so no more calls are pending than the body has paths.
 #[cycle(walk)]
 fn arrive(alloc: Global, walk: &Walk<'_>, spot: Spot) -> Result<Vec<MetGoal>, NoMemory>
     requires can { CanWalk (setting walk.now) }

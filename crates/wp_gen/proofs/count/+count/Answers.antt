@@ -1,11 +1,11 @@
 use Rattle.std.proofs.Common.{◌∙◌, sym, ap, subst, Some, None, arith}
 use Rattle.mir_ir.specs.Layout.{among}
-use Rattle.wp_gen.specs.Count.{IsRoomLeft, goals_within}
-use Rattle.wp_gen.specs.Paths.{last_target}
+use Rattle.wp_gen.specs.Count.{IsRoomLeft, LeavesRoomAlong, goals_within}
+use Rattle.wp_gen.specs.Paths.{before_last, AreTargets, last_target}
 use Rattle.wp_gen.specs.Setting.{setting}
 use Rattle.prophecy_logic.proofs.ArriveLaws.{if_names_yes}
-use Rattle.wp_gen.proofs.CountLaws.{back_leaves, arrival_is_full, on_leaves, block_before, statements_are_many, goto_before, branch_before, call_before, return_before, panic_before, none_behind, along_behind, same_room}
-use Rattle.wp_gen.proofs.PathLaws.{last_named, next_block}
+use Rattle.wp_gen.proofs.CountLaws.{back_leaves, arrival_is_full, on_leaves, block_before, statements_are_many, goto_before, branch_before, switch_before, along_none, along_next, along_too_many, along_all, call_before, return_before, panic_before, none_behind, along_behind, same_room}
+use Rattle.wp_gen.proofs.PathLaws.{item, item_is, item_among, before_are_targets, last_named, next_block}
 use Rattle.wp_gen.proofs.count.+count.Goals as goal
 
 pub along-returns-in_err-left : goal.along-returns-in_err-left
@@ -29,6 +29,30 @@ along-returns t c =
     on_leaves (setting c.args.walk.now) c.args.from c.args.to c.args.block.now c.args.room c.in_ok-left.left c.from_block.result c.requires.can.laid_out c.requires.here c.requires.edge
     (ap (among c.args.to) (sym c.as_slice.ensures) ∙ sym c.among.ensures ∙ c.if-among.false) c.in_ok-left.ensures c.from_block.ensures
 
+pub along_each-along-requires : goal.along_each-along-requires
+along_each-along-requires t c =
+    (omega (arith, c.decreases), (c.requires.can, (c.requires.here, c.requires.edges (item c.args.labels.now c.loop-to.to-index) (item_among c.args.labels.now c.loop-to.to-index (item c.args.labels.now c.loop-to.to-index) c.loop-to-test.true (item_is c.args.labels.now c.loop-to.to-index c.loop-to-test.true)))))
+
+pub along_each-loop-to-init : goal.along_each-loop-to-init
+along_each-loop-to-init t c = along_none (setting c.args.walk.now) c.args.from c.args.room
+
+pub along_each-returns-in_err-left : goal.along_each-returns-in_err-left
+along_each-returns-in_err-left t c =
+    rw c.from_residual.ensures
+    (along_too_many (setting c.args.walk.now) c.args.from c.args.labels.now c.loop-to.to-index (item c.args.labels.now c.loop-to.to-index) c.args.room c.loop-to.left c.loop-to-test.true (item_is c.args.labels.now c.loop-to.to-index c.loop-to-test.true) c.loop-to.invariant c.in_err-left.ensures)
+
+pub along_each-loop-to-preserved : goal.along_each-loop-to-preserved
+along_each-loop-to-preserved t c =
+    along_next (setting c.args.walk.now) c.args.from c.args.labels.now c.loop-to.to-index (item c.args.labels.now c.loop-to.to-index) c.args.room c.loop-to.left (Some c.in_ok-left.left) c.loop-to-test.true (item_is c.args.labels.now c.loop-to.to-index c.loop-to-test.true) c.loop-to.invariant c.in_ok-left.ensures
+
+pub along_each-returns : goal.along_each-returns
+along_each-returns t c = along_all (setting c.args.walk.now) c.args.from c.args.labels.now c.loop-to.to-index c.args.room (Some c.loop-to.left) c.loop-to-test.false c.loop-to.invariant
+
+pub after_end-along_each-requires : goal.after_end-along_each-requires
+after_end-along_each-requires t c =
+    let kind = c.args.block.now.end.kind in
+    (omega (arith, c.decreases), (c.requires.can, (c.requires.here, subst (λ ls. AreTargets ls kind) (sym (c.before_last-labels.ensures ∙ ap before_last c.as_slice.ensures)) (before_are_targets kind c.in-Switch.field-0 c.in-Switch.labels c.in-Switch.is))))
+
 pub after_end-along-requires : goal.after_end-along-requires
 after_end-along-requires t c =
     (omega (arith, c.decreases), (c.requires.can, (c.requires.here, if_names_yes c.args.block.now.end.kind c.in-If.field-0 c.in-If.yes c.in-If.field-2 c.in-If.is)))
@@ -43,6 +67,11 @@ pub after_end-returns-in-Call : goal.after_end-returns-in-Call
 after_end-returns-in-Call t c =
     call_before (setting c.args.walk.now) c.args.label c.args.block.now c.in-Call.field-0 c.in-Call.callee c.in-Call.field-2 c.in-Call.field-3 c.in-Call.field-4 c.contract_at-contract.result.now c.args.room c.after.result c.in-Call.is
     c.contract_at-contract.ensures (same_room c.args.room _ _ c.after.result c.len.ensures c.after.ensures)
+
+pub after_end-returns-in-Switch : goal.after_end-returns-in-Switch
+after_end-returns-in-Switch t c =
+    switch_before (setting c.args.walk.now) c.args.label c.args.block.now c.in-Switch.field-0 c.in-Switch.labels c.args.room c.along_each.result c.in-Switch.is
+    (subst (λ ls. LeavesRoomAlong (setting c.args.walk.now) c.args.label ls c.args.room c.along_each.result) (c.before_last-labels.ensures ∙ ap before_last c.as_slice.ensures) c.along_each.ensures)
 
 pub after_end-returns-in-Return : goal.after_end-returns-in-Return
 after_end-returns-in-Return t c =

@@ -1,8 +1,8 @@
 use Rattle.std.proofs.Common.{◌≡◌, ◌∙◌, refl, sym, ap, subst, ◌+◌, ◌-◌, true, false, arith}
 use Rattle.mir_ir.specs.Layout.{among}
 use Rattle.prophecy_logic.proofs.ArriveLaws.{if_names_yes}
-use Rattle.wp_gen.specs.Paths.{CountsFirst, CountsFrom}
-use Rattle.wp_gen.proofs.PathLaws.{count_map, back_counts, on_counts, last_named, first_is_many, ends_counts, later_counts, next_block}
+use Rattle.wp_gen.specs.Paths.{before_last, AreTargets, CountsFirst, CountsFrom}
+use Rattle.wp_gen.proofs.PathLaws.{item, item_is, item_among, each_next, each_too_many, before_are_targets, count_map, back_counts, on_counts, last_named, first_is_many, ends_counts, later_counts, next_block}
 use Rattle.wp_gen.proofs.paths.+paths.Goals as goal
 
 pub along-returns-then-among : goal.along-returns-then-among
@@ -24,6 +24,28 @@ along-returns t c =
     (on_counts c.args.body.now c.args.from c.args.to c.args.block.now c.requires.laid_out c.requires.here c.requires.edge
     (ap (among c.args.to) (sym c.as_slice.ensures) ∙ sym c.among.ensures ∙ c.if-among.false))
     c.from_block.ensures
+
+pub along_each-along-requires : goal.along_each-along-requires
+along_each-along-requires t c =
+    (omega (arith, c.decreases), (c.requires.laid_out, (c.requires.here, c.requires.edges (item c.args.labels.now c.loop-to.to-index) (item_among c.args.labels.now c.loop-to.to-index (item c.args.labels.now c.loop-to.to-index) c.loop-to-test.true (item_is c.args.labels.now c.loop-to.to-index c.loop-to-test.true)))))
+
+pub along_each-returns-in_err-counted : goal.along_each-returns-in_err-counted
+along_each-returns-in_err-counted t c =
+    let left = c.args.room - c.loop-to.counted in
+    let sum : c.loop-to.counted + left ≡ c.args.room = omega (arith, c.loop-to.invariant.0) in
+    rw c.from_residual.ensures
+    (each_too_many c.args.body.now c.args.label c.args.labels.now c.loop-to.to-index (item c.args.labels.now c.loop-to.to-index) c.args.room c.loop-to.counted left c.loop-to-test.true (item_is c.args.labels.now c.loop-to.to-index c.loop-to-test.true) sum c.loop-to.invariant.1 c.in_err-counted.ensures)
+
+pub along_each-loop-to-preserved : goal.along_each-loop-to-preserved
+along_each-loop-to-preserved t c = (
+  omega (arith, c.in_ok-counted.ensures.0, c.loop-to.invariant.0),
+  each_next c.args.body.now c.args.label c.args.labels.now c.loop-to.to-index (item c.args.labels.now c.loop-to.to-index) c.loop-to.counted c.in_ok-counted.field-0 c.loop-to-test.true (item_is c.args.labels.now c.loop-to.to-index c.loop-to-test.true) c.loop-to.invariant.1 c.in_ok-counted.ensures.1,
+)
+
+pub first_side-along_each-requires : goal.first_side-along_each-requires
+first_side-along_each-requires t c =
+    let kind = c.args.block.now.end.kind in
+    (omega (arith, c.decreases), (c.requires.laid_out, (c.requires.here, subst (λ ls. AreTargets ls kind) (sym (c.before_last-labels.ensures ∙ ap before_last c.as_slice.ensures)) (before_are_targets kind c.in-Switch.field-0 c.in-Switch.labels c.in-Switch.is))))
 
 pub first_side-along-requires : goal.first_side-along-requires
 first_side-along-requires t c =
