@@ -1,5 +1,5 @@
 -- The contract of a function speaks of its parameters.
-use Rattle.std.proofs.Common.{◌≡◌, ◌⊎◌, inl, inr, refl, ap, sym, ◌∙◌, subst, ℕ, zero, suc, ◌+◌, ◌^◌, ◌≤◌, true, List, [], ◌∷◌, ◌++◌, map, drop, length, Some, slice_get, arith, length-append, length-drop}
+use Rattle.std.proofs.Common.{◌≡◌, ◌⊎◌, inl, inr, refl, ap, sym, ◌∙◌, subst, ℕ, zero, suc, ◌+◌, ◌^◌, ◌<◌, ◌≤◌, true, List, [], ◌∷◌, ◌++◌, map, drop, length, Some, slice_get, arith, length-append, length-drop}
 use Rattle.text_core.specs.declared.name.Name.{Name}
 use Rattle.logic_term.specs.declared.declaration.AdtDecl.{AdtDecl}
 use Rattle.logic_term.specs.Free.{free}
@@ -16,7 +16,7 @@ use Rattle.type_check.specs.declared.program.TypedFunction.{TypedFunction}
 use Rattle.type_check.specs.VariableNames.{variable_name, answer_name}
 use Rattle.type_check.specs.WellTyped.{IsVariable, SpeaksOfAnswer, ClauseSpeaksOf, EachSpeaks, ClausesSpeak, FunctionFits}
 use Rattle.mir_build.specs.Laws.{EnsuresAreWhole}
-use Rattle.mir_ir.specs.Names.{ContractSpeaks, IsOneOf}
+use Rattle.mir_ir.specs.Names.{ContractSpeaks, IsOneOf, new_number}
 use Rattle.mir_build.specs.Lowering.{counted, contract_over, HasContract, Formula, accepted, term_of, formula_span, formulas_of, picked, LowersTo}
 use Rattle.mir_build.proofs.LawFunction.{counted_length, locals_length}
 use Rattle.mir_build.proofs.LawLocals.{counted_at, counted_get, local_no_variable, variable_number, variable_no_answer, variable_not_new, small_named}
@@ -84,7 +84,7 @@ module _ (owner : List ℕ) (f : TypedFunction) (b : Body) (gone : Initialised) 
       count = map_length variable_name (counted 0 f.signature.params) ∙ counted_length 0 f.signature.params ∙ sym l.params;
       apart = λ i j x y e g q. variable_number i j (sym (variable_at i x e).0 ∙ q ∙ (variable_at j y g).0);
       no_local = λ i x n m e g q. local_no_variable x i (small_named owner f b gone l x m g).1 (sym (small_named owner f b gone l x m g).0 ∙ sym q ∙ (variable_at i n e).0);
-      none_is_new = λ i n e q. variable_not_new i (variable_at i n e).1 (sym (variable_at i n e).0 ∙ q);
+      none_is_new = λ i n e. subst (λ j. j < new_number) (sym (variable_at i n e).0) (variable_not_new i (variable_at i n e).1);
       before = λ j t e x h. one_of x (before_at (length f.signature.params) before speaks j t e x h);
       over = λ j t e x h n. or_answer x n (over_at (length f.signature.params) behind answers j t e x h);
     },

@@ -214,6 +214,6 @@ module _ (owner : List ℕ) (f : TypedFunction) (b : Body) (gone : Initialised) 
       named = ap length l.names ∙ map_length local_name (counted 0 b.locals) ∙ counted_length 0 b.locals;
       answers = omega (arith, locals_length, l.params);
       begins = (body_laid_out.entry, body_laid_out.is_entry);
-      statements = λ m k i st e h. typed_at b k.statements i st (block_at (BlockTyped bodies b) b.blocks m k blocks_typed e).statements h;
+      statements = λ m k i st e h. typed_at bodies b k.statements i st (block_at (BlockTyped bodies b) b.blocks m k blocks_typed e).statements h;
       ends = λ m k e. end_typed bodies b k.end.kind (block_at (BlockTyped bodies b) b.blocks m k blocks_typed e).end (λ to a. has_block b m k to (body_laid_out.edges m to k e a));
     }

@@ -56,9 +56,9 @@ pub local_no_answer : (x : ℕ) → x ≤ 2 ^ 32 → (local_name x).0 ≡ answer
 unfolding local_name answer_name
 local_no_answer x h e = omega (arith, e)
 
-pub local_not_new : (x : ℕ) → x ≤ 2 ^ 32 → (local_name x).0 ≡ new_number → ⊥
+pub local_not_new : (x : ℕ) → x ≤ 2 ^ 32 → (local_name x).0 < new_number
 unfolding local_name
-local_not_new x h e = omega (arith, e)
+local_not_new x h = omega arith
 
 pub variable_number : (x y : ℕ) → (variable_name x).0 ≡ (variable_name y).0 → x ≡ y
 unfolding variable_name
@@ -68,9 +68,9 @@ pub variable_no_answer : (k : ℕ) → k ≤ 2 ^ 32 → (variable_name k).0 ≡ 
 unfolding variable_name answer_name
 variable_no_answer k h e = omega (arith, e)
 
-pub variable_not_new : (k : ℕ) → k ≤ 2 ^ 32 → (variable_name k).0 ≡ new_number → ⊥
+pub variable_not_new : (k : ℕ) → k ≤ 2 ^ 32 → (variable_name k).0 < new_number
 unfolding variable_name
-variable_not_new k h e = omega (arith, e)
+variable_not_new k h = omega arith
 
 number_of : {n m : Name} → n ≡ m → n.0 ≡ m.0
 number_of e = ap (λ (z : Name). z.0) e
@@ -199,7 +199,7 @@ module _ (owner : List ℕ) (f : TypedFunction) (b : Body) (gone : Initialised) 
   locals_are_named = (
     record {
       apart = λ x y n m e f q. local_number x y (sym (small_named x n e).0 ∙ q ∙ (small_named y m f).0);
-      none_is_new = λ x n e q. local_not_new x (small_named x n e).1 (sym (small_named x n e).0 ∙ q);
+      none_is_new = λ x n e. subst (λ i. i < new_number) (sym (small_named x n e).0) (local_not_new x (small_named x n e).1);
     },
     record {
       no_variable = λ x k n e q. local_no_variable x k (small_named x n e).1 (sym (small_named x n e).0 ∙ q);

@@ -6,13 +6,13 @@ use Rattle.logic_term.specs.Ty.{Ty}
 use Rattle.mir_ir.specs.declared.place.Operand.{Operand}
 use Rattle.mir_ir.specs.declared.place.Operand.TheVariants.{Copy, Move, Const}
 use Rattle.mir_ir.specs.declared.statement.Rvalue.{Rvalue}
-use Rattle.mir_ir.specs.declared.statement.Rvalue.TheVariants.{Use, Binary, Neg, Not, Widen, Make}
+use Rattle.mir_ir.specs.declared.statement.Rvalue.TheVariants.{Use, Binary, Neg, Not, Widen, Make, BoxNew}
 use Rattle.mir_ir.specs.declared.statement.Statement.{Statement}
 use Rattle.mir_ir.specs.declared.statement.StatementKind.{StatementKind}
 use Rattle.mir_ir.specs.declared.statement.StatementKind.TheVariants.{Assign, Dead}
 use Rattle.mir_ir.specs.declared.terminator.Terminator.{Terminator}
 use Rattle.mir_ir.specs.declared.terminator.TerminatorKind.{TerminatorKind}
-use Rattle.mir_ir.specs.declared.terminator.TerminatorKind.TheVariants.{Goto, If, Call, Return, Panic}
+use Rattle.mir_ir.specs.declared.terminator.TerminatorKind.TheVariants.{Goto, If, Switch, Call, Return, Panic}
 use Rattle.mir_ir.specs.WellFormed.{Locals, with, without, Within}
 use Rattle.mir_ir.proofs.Taking.{taken, CanTake, CanTakeAll, all_taken, CanEvaluate, evaluated, CanRun, run, CanEnd, Carries}
 use Rattle.mir_build.specs.Text.{Title, Line, Puts, Makes, Turns, Leaves, Owns, begun}
@@ -85,6 +85,7 @@ can_evaluate (Neg o) small large w h = can_take o small large w h
 can_evaluate (Not o) small large w h = can_take o small large w h
 can_evaluate (Widen o k) small large w h = can_take o small large w h
 can_evaluate (Make c os) small large w h = can_take_all os small large w h
+can_evaluate (BoxNew o) small large w h = can_take o small large w h
 
 evaluated_within : (r : Rvalue) (small large : Locals) → Within small large → Within (evaluated r small) (evaluated r large)
 evaluated_within (Use o) small large w = taken_within o small large w
@@ -93,6 +94,7 @@ evaluated_within (Neg o) small large w = taken_within o small large w
 evaluated_within (Not o) small large w = taken_within o small large w
 evaluated_within (Widen o k) small large w = taken_within o small large w
 evaluated_within (Make c os) small large w = all_taken_within os small large w
+evaluated_within (BoxNew o) small large w = taken_within o small large w
 
 can_run : (k : StatementKind) (small large : Locals) → Within small large → CanRun small k → CanRun large k
 can_run (Assign p r) small large w h = can_evaluate r small large w h
@@ -105,6 +107,7 @@ run_within (Dead x) small large w = without_within x small large w
 can_end : (k : TerminatorKind) (small large : Locals) → Within small large → CanEnd small k → CanEnd large k
 can_end (Goto l) small large w h = tt
 can_end (If o l m) small large w h = can_take o small large w h
+can_end (Switch p ls) small large w h = w p.local h
 can_end (Call p f types os l) small large w h = can_take_all os small large w h
 can_end Return small large w h = w 0 h
 can_end (Panic cause) small large w h = tt
@@ -114,6 +117,7 @@ carries at (Goto l) small large w h = within_trans (at l) small large h w
 carries at (If o l m) small large w h =
     let v = taken_within o small large w in
     (within_trans (at l) (taken o small) (taken o large) h.0 v, within_trans (at m) (taken o small) (taken o large) h.1 v)
+carries at (Switch p ls) small large w h = λ l named. within_trans (at l) small large (h l named) w
 carries at (Call p f types os l) small large w h =
     within_trans (at l) (with p.local (all_taken os small)) (with p.local (all_taken os large)) h (with_within p.local (all_taken os small) (all_taken os large) (all_taken_within os small large w))
 carries at Return small large w h = tt

@@ -24,7 +24,7 @@ use Rattle.mir_build.proofs.LawNames.{HoldsPlaces, head_fits}
 use Rattle.mir_build.proofs.LawRuns.{with_self, with_more, with_within, kept, Runs, stops, runs-append, Laid, laid_stops, laid_puts, laid_makes, laid_panics, laid_returns, laid_goes, laid-append}
 use Rattle.mir_build.proofs.LawLaid.{weight, Apart, none, before, first, second, left, right, fresh_second, given_up, still, at_most, same_set, forked, parted, looped, circled, spun, with_all, with_all_more, with_all_has, called, weight_with}
 use Rattle.mir_build.proofs.Jumps.{innermost_last, deaths, first_dies_last, has_last, has_drop_last}
-use Rattle.mir_build.proofs.TypedShapes.{Takes, of_number, of_bool, of_unit, of_copy, of_minus, of_not, of_operation, KeepsTyped, of_typed_body}
+use Rattle.mir_build.proofs.TypedShapes.{Takes, of_number, of_bool, of_unit, of_copy, of_minus, of_not, of_widening, of_operation, KeepsTyped, of_typed_body}
 use Rattle.mir_build.proofs.PlainTyping.{IsPlainlyTyped}
 
 -- the set has the locals of the places in scope, one place for each variable, and what is initialised around the innermost loop, of which
@@ -229,6 +229,7 @@ laid_put c Γ ts s d r T (of_unit h) base set sc z a = laid_puts _ _ _ _ tt (lai
 laid_put c Γ ts s d r T (of_copy v p q h) base set sc z a = laid_puts _ _ _ _ (sc.holds p (has_get c.scope v p q)) (laid_stops _ _ (same_set (with d set)))
 laid_put c Γ ts s d r T (of_minus {t = t} i h e q) base set sc z a = laid_puts _ _ _ _ (with_self t set) (laid_stops _ _ (moved_on d t set (fresh_second d t set _ a)))
 laid_put c Γ ts s d r T (of_not {t = t} h q) base set sc z a = laid_puts _ _ _ _ (with_self t set) (laid_stops _ _ (moved_on d t set (fresh_second d t set _ a)))
+laid_put c Γ ts s d r T (of_widening {t = t} j k h e q) base set sc z a = laid_puts _ _ _ _ (with_self t set) (laid_stops _ _ (moved_on d t set (fresh_second d t set _ a)))
 laid_put c Γ ts s d r T (of_operation {t = t} {u = u} h e) base set sc z a =
     let no_u : set u ≡ false = fresh_second d u set _ a in
     let no_t : set t ≡ false = fresh_second d t set _ (without_second d u set _ a) in

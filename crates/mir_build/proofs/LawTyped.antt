@@ -9,7 +9,7 @@ use Rattle.logic_term.specs.Ty.{Ty, int, bool}
 use Rattle.mir_ir.specs.declared.body.Body.{Body}
 use Rattle.mir_ir.specs.declared.place.Place.{Place}
 use Rattle.mir_ir.specs.declared.terminator.TerminatorKind.{TerminatorKind}
-use Rattle.mir_ir.specs.declared.terminator.TerminatorKind.TheVariants.{Goto, If, Call, Return, Panic}
+use Rattle.mir_ir.specs.declared.terminator.TerminatorKind.TheVariants.{Goto, If, Switch, Call, Return, Panic}
 use Rattle.mir_ir.specs.WellFormed.{IsSigned, PlaceHas, OperandHas, OperationHas, StatementIsTyped, CallIsTyped, Locals}
 use Rattle.mir_ir.specs.WellFormed as mir
 use Rattle.type_check.specs.Plain.{IsScalar, AllScalar}
@@ -84,10 +84,11 @@ scalar_at (u ∷ ts) (suc i) t h e = scalar_at ts i t h.1 e
 
 -- ---- what is typed
 
--- what a block's end owes besides that its labels have blocks
+-- what a block's end owes besides that its labels have blocks. So far nothing lowers to a switch
 abbrev pub EndFits : Bodies → Body → TerminatorKind → Type 0
 EndFits bodies b (Goto l) = Unit {0}
 EndFits bodies b (If o l m) = OperandHas b o bool
+EndFits bodies b (Switch p ls) = ⊥
 EndFits bodies b (Call p f types os l) = CallIsTyped bodies b p f types os
 EndFits bodies b Return = Unit {0}
 EndFits bodies b (Panic cause) = Unit {0}
@@ -99,7 +100,7 @@ is_local b x = is_some (slice_get b.locals x)
 -- the statements and ends of the text are typed, and what it makes is of a scalar type
 abbrev pub AreTyped : Bodies → Body → List Line → Type 0
 AreTyped bodies b [] = Unit {0}
-AreTyped bodies b (Puts s ∷ xs) = StatementIsTyped b s.kind × AreTyped bodies b xs
+AreTyped bodies b (Puts s ∷ xs) = StatementIsTyped bodies b s.kind × AreTyped bodies b xs
 AreTyped bodies b (Makes x t ∷ xs) = IsScalar t × AreTyped bodies b xs
 AreTyped bodies b (Turns t k ∷ xs) = EndFits bodies b t.kind × HeadFits (is_local b) k.head × AreTyped bodies b xs
 AreTyped bodies b (Leaves t ∷ xs) = EndFits bodies b t.kind × AreTyped bodies b xs

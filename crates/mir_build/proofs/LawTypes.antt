@@ -23,7 +23,7 @@ use Rattle.mir_build.proofs.LawNames.{head_fits}
 use Rattle.mir_build.proofs.LawTyped.{operation_has, operation_scalar, signed, scalar_more, scalar_at, is_local, AreTyped, typed-append, MadeFits, made_first, made_rest, made_left, made_right, ScopeFits, scope_at, scope_more, scope_length, scope_holds, scope_has}
 use Rattle.mir_build.proofs.LawLists.{Has, here, there}
 use Rattle.mir_build.proofs.Jumps.{deaths, first_dies_last, has_drop}
-use Rattle.mir_build.proofs.TypedShapes.{Takes, of_number, of_bool, of_unit, of_copy, of_minus, of_not, of_operation, KeepsTyped, of_typed_body}
+use Rattle.mir_build.proofs.TypedShapes.{Takes, of_number, of_bool, of_unit, of_copy, of_minus, of_not, of_widening, of_operation, KeepsTyped, of_typed_body}
 use Rattle.mir_build.proofs.PlainTyping.{IsPlainlyTyped}
 
 -- the body of a callee has the types of its signature
@@ -90,15 +90,17 @@ module _ (σ : Surroundings) (bodies : Bodies) (b : Body) (callees : (n : ℕ) (
   value_scalar c Γ ts r T (of_copy v p q h) g = scalar_at Γ v T g h
   value_scalar c Γ ts r T (of_minus i h g' e) g = subst IsScalar (sym g') tt
   value_scalar c Γ ts r T (of_not h e) g = subst IsScalar (sym h) tt
+  value_scalar c Γ ts r T (of_widening j k h g' e) g = subst IsScalar (sym g') tt
   value_scalar c Γ ts r T (of_operation {op = op} {T = U} h e) g = operation_scalar op U T h
 
-  value_typed : (c : Around) (Γ : List Ty) (ts : List (ℕ × Ty)) (r : Rvalue) (T : Ty) → Takes c Γ ts r T → Known b c Γ → EachAt b ts → RvalueHas b r T
+  value_typed : (c : Around) (Γ : List Ty) (ts : List (ℕ × Ty)) (r : Rvalue) (T : Ty) → Takes c Γ ts r T → Known b c Γ → EachAt b ts → RvalueHas bodies b r T
   value_typed c Γ ts r T (of_number h) k a = h
   value_typed c Γ ts r T (of_bool h) k a = h
-  value_typed c Γ ts r T (of_unit h) k a = (refl, refl, h)
+  value_typed c Γ ts r T (of_unit h) k a = ([], tt, h)
   value_typed c Γ ts r T (of_copy v p q h) k a = scope_at b c.scope Γ v p T k.scope q h
   value_typed c Γ ts r T (of_minus {t = t} i h e q) k a = (i, signed i h, (refl, at_type t _ _ a.0 q), e)
   value_typed c Γ ts r T (of_not {t = t} h q) k a = ((refl, at_type t _ _ a.0 q), h)
+  value_typed c Γ ts r T (of_widening {t = t} j i h e q) k a = (j, h, (refl, at_type t _ _ a.0 q), e)
   value_typed c Γ ts r T (of_operation {u = u} {op = op} {T = U} h e) k a = (U, (refl, a.1.0), (refl, at_type u _ _ a.0 e), operation_has op U T h)
 
   typed_dies : (outer : Bool) (s : Span) (t : ℕ) (T : Ty) → At t T → AreTyped bodies b (dies_in outer s t)
@@ -106,7 +108,7 @@ module _ (σ : Surroundings) (bodies : Bodies) (b : Body) (callees : (n : ℕ) (
   typed_dies false s t T h = ((T, h), tt)
 
   unit_typed : (T : Ty) (d : ℕ) (s : Span) → T ≡ unit → At d T → AreTyped bodies b (put_unit s d ∷ [])
-  unit_typed T d s e a = ((T, (refl, a), (refl, refl, e)), tt)
+  unit_typed T d s e a = ((T, (refl, a), ([], tt, e)), tt)
 
   then_made : (t : ℕ) (T : Ty) (xs ys : List Line) → IsScalar T → (At t T → MadeFits b (made xs) → AreTyped bodies b xs) → (At t T → MadeFits b (made ys) → AreTyped bodies b ys)
       → MadeFits b (made (made_by t T xs ++ ys)) → AreTyped bodies b (made_by t T xs ++ ys)

@@ -4,7 +4,7 @@ use Rattle.std.proofs.lemmas.Option.{get_or_from_slice_get}
 use Rattle.text_core.specs.declared.span.Span.{Span}
 use Rattle.mir_ir.specs.declared.place.Operand.TheVariants.{Copy}
 use Rattle.mir_ir.specs.declared.place.Place.{Place}
-use Rattle.mir_ir.specs.declared.statement.Rvalue.TheVariants.{Use, Binary, Neg, Not, Make}
+use Rattle.mir_ir.specs.declared.statement.Rvalue.TheVariants.{Use, Binary, Neg, Not, Widen, Make}
 use Rattle.mir_ir.specs.declared.terminator.FnId.TheVariants as fn_id
 use Rattle.mir_ir.specs.declared.terminator.Callee.TheVariants.{Function}
 use Rattle.mir_ir.specs.declared.terminator.TerminatorKind.TheVariants.{Goto, If, Call, Return}
@@ -14,7 +14,7 @@ use Rattle.mir_build.specs.declared.around.Loop.{Loop}
 use Rattle.mir_build.specs.Taking.{is_copied, taken}
 use Rattle.mir_build.specs.Text.{Line, Makes, Turns, Leaves, Owns, made}
 use Rattle.mir_build.specs.Lowering.{Around, binds, looping, at, at_head, head_of, whole, part_place, puts, puts_at, put_unit, moved, ends, innermost, dies_in, die_from, numbers, lazily, test, fork}
-use Rattle.mir_build.specs.Lowering.{Into, of_integer, of_truth, of_variable, of_negative, of_denied, of_binary, of_lazy, of_assign, of_update, of_call, of_make, of_part, of_block, of_branch, of_choice, of_leaving_choice, of_repeat, of_panics, of_returned, of_endless, of_until_break, of_break_off, of_go_on}
+use Rattle.mir_build.specs.Lowering.{Into, of_integer, of_truth, of_variable, of_negative, of_denied, of_cast, of_binary, of_lazy, of_assign, of_update, of_call, of_make, of_part, of_block, of_branch, of_choice, of_leaving_choice, of_repeat, of_panics, of_returned, of_endless, of_until_break, of_break_off, of_go_on}
 use Rattle.mir_build.specs.Lowering.{Rest, of_done, of_last, of_leaving, of_bind, of_run, Args, of_none, of_more, PlaceOf, of_name, of_part_place, of_temporary, is_place, IntoBody, of_outermost, of_other, is_block, named, named_place, named_rest, named_args, named_body}
 use Rattle.mir_build.specs.Numbered.{no_loop, loop_at, place_of, temporary_count, place_text, place_before, text_before, if_text, into, rest, args, body_text, labels, locals, temporaries, label, variable_place}
 use Rattle.mir_build.proofs.Numbers.{makings}
@@ -63,6 +63,9 @@ mutual
   one_text c e d xs (of_denied {s = s} {e = a} {t = t'} {xs = us} p) l t n o =
       let x = one_text c a t' us p l (t + 1) n (order_left (t + 1) us _ o.1) ∙ ap (into a c l (t + 1)) o.0 in
       λ i. Makes (o.0 i) (ty_of a) ∷ (x i ++ puts s d (Not (moved (o.0 i))) ∷ [])
+  one_text c e d xs (of_cast {k = k} {s = s} {e = a} {t = t'} {xs = us} p) l t n o =
+      let x = one_text c a t' us p l (t + 1) n (order_left (t + 1) us _ o.1) ∙ ap (into a c l (t + 1)) o.0 in
+      λ i. Makes (o.0 i) (ty_of a) ∷ (x i ++ puts s d (Widen (moved (o.0 i)) k) ∷ [])
   one_text c e d xs (of_binary {s = s} {op = op} {a = a} {b = b} {t = t'} {u = u'} {xs = us} {ys = vs} p q) l t n o =
       let x = one_text c a t' us p l (t + 1) (from_left l (named p) (named q) n) (order_left (t + 1) us _ o.1) ∙ ap (into a c l (t + 1)) o.0 in
       let r = behind a c l (t + 1) t us _ x o.1 in

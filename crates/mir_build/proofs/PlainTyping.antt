@@ -1,7 +1,7 @@
 -- Typing of plain trees: that of `IsWellTyped` where each type is scalar and no tuple is made or taken apart. What is proved of bodies speaks of them.
 use Rattle.std.proofs.Common.{◌≡◌, ◌⊎◌, inl, inr, true, false, List, [], ◌∷◌, ◌++◌, length, Some, slice_get}
 use Rattle.source_kinds.specs.declared.kinds.IntKind.{IntKind}
-use Rattle.source_kinds.specs.Range.{fits}
+use Rattle.source_kinds.specs.Range.{fits, widens}
 use Rattle.logic_term.specs.declared.declaration.AdtDecl.{AdtDecl}
 use Rattle.logic_term.specs.Ty.{Ty, int, bool}
 use Rattle.type_check.specs.declared.program.Signature.{Signature}
@@ -9,7 +9,7 @@ use Rattle.type_check.specs.declared.program.TypedFunction.{TypedFunction}
 use Rattle.type_check.specs.Breaks.{breaks}
 use Rattle.type_check.specs.Leaves.{leaves}
 use Rattle.type_check.specs.Plain.{IsScalar, AllScalar, IsPlain, StatementsArePlain, ArePlain, FunctionIsPlain}
-use Rattle.type_check.specs.TypedExpr.{TypedExpr, TypedStmts, TypedExprs, integer, truth, variable, negative, denied, binary, lazy, assign, update, call, make, part, block, branch, choice, repeat, panics, returned, endless, until_break, break_off, go_on, done, last, leaving, bind, run, none, more}
+use Rattle.type_check.specs.TypedExpr.{TypedExpr, TypedStmts, TypedExprs, integer, truth, variable, negative, denied, cast, binary, lazy, assign, update, call, make, part, block, branch, choice, repeat, panics, returned, endless, until_break, break_off, go_on, done, last, leaving, bind, run, none, more}
 use Rattle.type_check.specs.TypedExprView.{ty_of}
 use Rattle.type_check.specs.WellTyped.{unit, is_signed, operation_ty, EachSpeaks, Surroundings, looping, outside, surroundings_of, IsOf, IsOfOrLeaves, ClausesSpeak, IsWellTyped, StatementsFit, ArgumentsFit, FunctionFits}
 
@@ -24,6 +24,7 @@ abbrev mutual
   IsPlainlyTyped σ Γ (variable t s x) = (slice_get Γ x ≡ Some t) × IsScalar t
   IsPlainlyTyped σ Γ (negative t s e) = (k : IntKind) × (is_signed k ≡ true) × (t ≡ int k) × IsOf (int k) e × IsPlainlyTyped σ Γ e
   IsPlainlyTyped σ Γ (denied t s e) = (t ≡ bool) × IsOf bool e × IsPlainlyTyped σ Γ e
+  IsPlainlyTyped σ Γ (cast t s e) = (j : IntKind) × (k : IntKind) × (widens j k ≡ true) × (t ≡ int k) × IsOf (int j) e × IsPlainlyTyped σ Γ e
   IsPlainlyTyped σ Γ (binary t s op a b) = (operation_ty op (ty_of a) ≡ Some t) × IsOf (ty_of a) b × IsPlainlyTyped σ Γ a × IsPlainlyTyped σ Γ b
   IsPlainlyTyped σ Γ (lazy t s op a b) = (t ≡ bool) × IsOf bool a × IsOf bool b × IsPlainlyTyped σ Γ a × IsPlainlyTyped σ Γ b
   IsPlainlyTyped σ Γ (assign t s a e) = (t ≡ unit) × IsOf (ty_of a) e × IsPlainlyTyped σ Γ a × IsPlainlyTyped σ Γ e
@@ -78,6 +79,7 @@ mutual
   plainly σ Γ (variable t s x) p h = (h, p)
   plainly σ Γ (negative t s e) p h = (h.0, h.1, h.2, h.3, plainly σ Γ e p.1 h.4)
   plainly σ Γ (denied t s e) p h = (h.0, h.1, plainly σ Γ e p.1 h.2)
+  plainly σ Γ (cast t s e) p h = (h.0, h.1, h.2, h.3, h.4, plainly σ Γ e p.1 h.5)
   plainly σ Γ (binary t s op a b) p h = (h.0, h.1, plainly σ Γ a p.1 h.2, plainly σ Γ b p.2 h.3)
   plainly σ Γ (lazy t s op a b) p h = (h.0, h.1, h.2, plainly σ Γ a p.1 h.3, plainly σ Γ b p.2 h.4)
   plainly σ Γ (assign t s a e) p h = (h.0, h.1, plainly σ Γ a p.1 h.2, plainly σ Γ e p.2 h.3)

@@ -4,16 +4,17 @@ use Rattle.std.specs.List.{slice_get, range_with_len}
 use Rattle.std.proofs.lemmas.Option.{slice_get_within, slice_get-get_or}
 use Rattle.text_core.specs.declared.span.Span.{Span}
 use Rattle.logic_term.specs.declared.kinds.Label.{Label}
-use Rattle.logic_term.specs.Ty.{Ty}
+use Rattle.logic_term.specs.Ty.{Ty, int}
+use Rattle.source_kinds.specs.declared.kinds.IntKind.{IntKind}
 use Rattle.mir_ir.specs.declared.place.Place.{Place}
 use Rattle.type_check.specs.declared.assertion.Assertion.{Assertion}
-use Rattle.type_check.specs.TypedExpr.{TypedExpr, TypedStmts, TypedExprs, integer, truth, variable, negative, denied, binary, lazy, assign, update, call, make, part, block, branch, choice, repeat, panics, returned, endless, until_break, break_off, go_on, done, last, leaving, bind, run, none, more}
+use Rattle.type_check.specs.TypedExpr.{TypedExpr, TypedStmts, TypedExprs, integer, truth, variable, negative, denied, cast, binary, lazy, assign, update, call, make, part, block, branch, choice, repeat, panics, returned, endless, until_break, break_off, go_on, done, last, leaving, bind, run, none, more}
 use Rattle.type_check.specs.Leaves.{leaves}
 use Rattle.type_check.specs.TypedExprView.{ty_of}
 use Rattle.type_check.specs.FirstBad.{bad_among, bad_in, bad_in_stmts, bad_in_exprs}
 use Rattle.type_check.specs.Answers.{or_else}
 use Rattle.type_check.specs.WellTyped.{Surroundings, within_loop, IsWellTyped, StatementsFit, ArgumentsFit, PartsFit}
-use Rattle.mir_build.specs.Lowering.{is_place, Around, accepted, whole, binds, looping, innermost, Into, of_integer, of_truth, of_variable, of_negative, of_denied, of_binary, of_lazy, of_assign, of_update, of_call, of_make, of_part, of_block, of_branch}
+use Rattle.mir_build.specs.Lowering.{is_place, Around, accepted, whole, binds, looping, innermost, Into, of_integer, of_truth, of_variable, of_negative, of_denied, of_cast, of_binary, of_lazy, of_assign, of_update, of_call, of_make, of_part, of_block, of_branch}
 use Rattle.mir_build.specs.Lowering.{of_choice, of_leaving_choice, of_repeat, of_panics, of_returned, of_endless, of_until_break, of_break_off, of_go_on, Rest, of_done, of_last, of_leaving, of_bind, of_run, Args, of_none, of_more, PlaceOf, of_name, of_part_place, of_temporary, IntoBody, of_outermost, of_other, named, named_place, named_rest, named_args, named_body}
 use Rattle.mir_build.specs.Text.{Line, Makes}
 use Rattle.mir_build.specs.Numbered.{no_loop, loop_at, place_of, text_before, place_before, choice_labels, choice_text, formula_of, into, rest, args, body_text, labels, labels_in, locals, temporaries, label, variable_place, between}
@@ -82,6 +83,12 @@ target (variable ty s v) c l t q p = q refl
 target (part ty s e n) c l t q p = q refl
 target e c l t q p = (of_temporary refl p.0, p.1)
 
+-- a cast, by its operand
+widened : (ty : Ty) (k : IntKind) (s : Span) (e : TypedExpr) (c : Around) (l t d : ℕ) → ty ≡ int k → Lowered c e t l (into e c l (t + 1) t) → Lowered c (cast ty s e) d l (into (cast ty s e) c l t d)
+widened ty k s e c l t d q p =
+    let row : Lowered c (cast (int k) s e) d l (into (cast (int k) s e) c l t d) = (of_cast p.0, p.1) in
+    subst (λ u. Lowered c (cast u s e) d l (into (cast u s e) c l t d)) (sym q) row
+
 -- a loop, by its condition and its body
 looped : (ty : Ty) (s : Span) (is : List Assertion) (e b : TypedExpr) (c : Around) (l t d : ℕ) → is ≡ map accepted (map formula_of is) → Lowered (looping c (label l) (label (l + 2))) e t (l + 3) (into e (looping c (label l) (label (l + 2))) (l + 3) (t + 1) t)
     → Lowered (looping c (label l) (label (l + 2))) b (t + 1 + locals e) (l + 3 + labels e) (into b (looping c (label l) (label (l + 2))) (l + 3 + labels e) (t + 1 + locals e + 1) (t + 1 + locals e))
@@ -130,6 +137,7 @@ mutual
   lowers σ Γ (denied ty s e) c l t d h o w g =
       let p = lowers σ Γ e c l (t + 1) t h o w.2 g in
       (of_denied p.0, p.1)
+  lowers σ Γ (cast ty s e) c l t d h o w g = widened ty w.1 s e c l t d w.3 (lowers σ Γ e c l (t + 1) t h o w.5 g)
   lowers σ Γ (binary ty s op a b) c l t d h o w g =
       let u = t + 1 + locals a in
       let p = lowers σ Γ a c l (t + 1) t h o w.2 (first_none (bad_in a) (bad_in b) g) in

@@ -8,7 +8,7 @@ use Rattle.source_kinds.specs.declared.kinds.LazyOp.TheVariants.{And, Or}
 use Rattle.type_check.specs.TypedExpr.{TypedExpr, TypedStmts, TypedExprs}
 use Rattle.mir_ir.specs.declared.terminator.TerminatorKind.TheVariants.{Goto}
 use Rattle.mir_build.specs.Text.{Line, Leaves}
-use Rattle.mir_build.specs.Lowering.{Around, ends, lazily, Into, of_integer, of_truth, of_variable, of_negative, of_denied, of_binary, of_lazy, of_assign, of_update, of_call, of_make, of_part, of_block}
+use Rattle.mir_build.specs.Lowering.{Around, ends, lazily, Into, of_integer, of_truth, of_variable, of_negative, of_denied, of_cast, of_binary, of_lazy, of_assign, of_update, of_call, of_make, of_part, of_block}
 use Rattle.mir_build.specs.Lowering.{of_branch, of_choice, of_leaving_choice, of_repeat, of_panics, of_returned, of_endless, of_until_break, of_break_off, of_go_on, Rest, of_done, of_last, of_leaving, of_bind, of_run, Args, of_none, of_more, PlaceOf, of_name, of_part_place, of_temporary, IntoBody, of_outermost, of_other, named, named_place, named_rest, named_args}
 use Rattle.mir_build.specs.Numbered.{choice_labels, labels, labels_of, labels_in}
 use Rattle.mir_build.proofs.Following.{From, from_right, from_both}
@@ -34,6 +34,9 @@ mutual
       let x = counts c _ _ _ p in
       (x.0, simp turns-append (omega (arith, x.1)))
   counts c e d xs (of_denied p) =
+      let x = counts c _ _ _ p in
+      (x.0, simp turns-append (omega (arith, x.1)))
+  counts c e d xs (of_cast p) =
       let x = counts c _ _ _ p in
       (x.0, simp turns-append (omega (arith, x.1)))
   counts c e d xs (of_binary p q) =

@@ -4,7 +4,7 @@ use Rattle.std.proofs.lemmas.List.{drop_all}
 use Rattle.std.proofs.lemmas.Option.{slice_get_within}
 use Rattle.logic_term.specs.Ty.{Ty}
 use Rattle.type_check.specs.declared.typed.TypedStmt.{TypedStmt}
-use Rattle.type_check.specs.TypedExpr.{TypedExpr, TypedStmts, TypedExprs, integer, truth, variable, negative, denied, binary, lazy, assign, update, call, make, part, block, branch, choice, repeat, panics, returned, endless, until_break, break_off, go_on, done, last, leaving, bind, run, none, more}
+use Rattle.type_check.specs.TypedExpr.{TypedExpr, TypedStmts, TypedExprs, integer, truth, variable, negative, denied, cast, binary, lazy, assign, update, call, make, part, block, branch, choice, repeat, panics, returned, endless, until_break, break_off, go_on, done, last, leaving, bind, run, none, more}
 use Rattle.type_check.specs.TypedExprView.{ty_of, stmt_of, stmts_of}
 use Rattle.type_check.specs.WellTyped.{Surroundings, within_loop, IsWellTyped, StatementsFit, ArgumentsFit, PartsFit}
 use Rattle.mir_build.specs.Lowering.{Around, whole}
@@ -21,6 +21,7 @@ mutual
   within_scope σ Γ (variable ty s v) w = omega (arith, slice_get_within Γ v ty w)
   within_scope σ Γ (negative ty s e) w = within_scope σ Γ e w.4
   within_scope σ Γ (denied ty s e) w = within_scope σ Γ e w.2
+  within_scope σ Γ (cast ty s e) w = within_scope σ Γ e w.5
   within_scope σ Γ (binary ty s op a b) w = omega (arith, within_scope σ Γ a w.2, within_scope σ Γ b w.3)
   within_scope σ Γ (lazy ty s op a b) w = omega (arith, within_scope σ Γ a w.3, within_scope σ Γ b w.4)
   within_scope σ Γ (assign ty s a e) w = omega (arith, within_scope σ Γ a w.2, within_scope σ Γ e w.3)

@@ -12,7 +12,7 @@ use Rattle.source_kinds.specs.declared.kinds.LazyOp.TheVariants as lazy_op
 use Rattle.type_check.specs.TypedExpr.{TypedExpr, TypedStmts, TypedExprs}
 use Rattle.mir_build.specs.declared.around.Loop.{Loop}
 use Rattle.mir_build.specs.Text.{Line, Puts, Makes, Leaves}
-use Rattle.mir_build.specs.Lowering.{Around, Formula, binds, looping, innermost, ends, dies_in, test, fork, calls, turning, spinning, circling, returning, lazily, Into, of_integer, of_truth, of_variable, of_negative, of_denied, of_binary, of_lazy, of_assign}
+use Rattle.mir_build.specs.Lowering.{Around, Formula, binds, looping, innermost, ends, dies_in, test, fork, calls, turning, spinning, circling, returning, lazily, Into, of_integer, of_truth, of_variable, of_negative, of_denied, of_cast, of_binary, of_lazy, of_assign}
 use Rattle.mir_build.specs.Lowering.{of_update, of_call, of_make, of_part, of_block, of_branch, of_choice, of_leaving_choice, of_repeat, of_panics, of_returned, of_endless, of_until_break, of_break_off, of_go_on, Rest, of_done, of_last, of_leaving, of_bind, of_run, Args, of_none, of_more, PlaceOf, of_name, of_part_place, of_temporary, IntoBody, of_outermost, of_other}
 use Rattle.mir_build.proofs.Jumps.{deaths, first_dies_last}
 
@@ -70,6 +70,7 @@ module _ (P : Around → List Line → Type 0) (keeps : Keeps P) where
     of_text c e d xs (of_variable x q k) = one c _
     of_text c e d xs (of_negative {xs = us} p) = made_then c _ _ us _ (of_text c _ _ us p) (one c _)
     of_text c e d xs (of_denied {xs = us} p) = made_then c _ _ us _ (of_text c _ _ us p) (one c _)
+    of_text c e d xs (of_cast {xs = us} p) = made_then c _ _ us _ (of_text c _ _ us p) (one c _)
     of_text c e d xs (of_binary {xs = us} {ys = vs} p q) = made_then c _ _ us _ (of_text c _ _ us p) (made_then c _ _ vs _ (of_text c _ _ vs q) (one c _))
     of_text c e d xs (of_lazy {s = s} {op = op} {t = t} yes' no' after {xs = us} {ys = vs} p q) = made_then c _ _ us _ (of_text c _ _ us p) (of_lazily op c s t d yes' no' after vs (of_text c _ _ vs q))
     of_text c e d xs (of_assign {xs = us} {ys = vs} p q) = made_then c _ _ us _ (of_text c _ _ us p) (keeps.join c vs _ (of_place c _ _ vs q) (two c _ _))

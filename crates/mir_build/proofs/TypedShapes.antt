@@ -9,12 +9,12 @@ use Rattle.source_kinds.specs.declared.kinds.BinaryOp.{BinaryOp}
 use Rattle.source_kinds.specs.declared.kinds.IntKind.{IntKind}
 use Rattle.source_kinds.specs.declared.kinds.LazyOp.{LazyOp}
 use Rattle.source_kinds.specs.declared.kinds.LazyOp.TheVariants as lazy_op
-use Rattle.source_kinds.specs.Range.{fits}
+use Rattle.source_kinds.specs.Range.{fits, widens}
 use Rattle.mir_ir.specs.declared.place.Lit.TheVariants as lit
 use Rattle.mir_ir.specs.declared.place.Operand.TheVariants.{Copy, Const}
 use Rattle.mir_ir.specs.declared.place.Place.{Place}
 use Rattle.mir_ir.specs.declared.statement.Rvalue.{Rvalue}
-use Rattle.mir_ir.specs.declared.statement.Rvalue.TheVariants.{Use, Binary, Neg, Not, Make}
+use Rattle.mir_ir.specs.declared.statement.Rvalue.TheVariants.{Use, Binary, Neg, Not, Widen, Make}
 use Rattle.mir_ir.specs.declared.terminator.TerminatorKind.TheVariants.{Goto, Panic}
 use Rattle.type_check.specs.declared.program.Signature.{Signature}
 use Rattle.type_check.specs.TypedExpr.{TypedExpr, TypedStmts, TypedExprs}
@@ -25,7 +25,7 @@ use Rattle.type_check.specs.WellTyped.{unit, operation_ty, is_signed, Surroundin
 use Rattle.mir_build.specs.declared.around.Loop.{Loop}
 use Rattle.mir_build.specs.Text.{Line, Leaves}
 use Rattle.mir_build.specs.Lowering.{Around, Formula, accepted, whole, binds, looping, innermost, puts, puts_at, put_unit, moved, ends, made_by, dies_in, die_from, test, fork, calls, turning, spinning, circling, returning, lazily}
-use Rattle.mir_build.specs.Lowering.{by_copy, by_move, Into, of_integer, of_truth, of_variable, of_negative, of_denied, of_binary, of_lazy, of_assign, of_update, of_call, of_make, of_part, of_block, of_branch, of_choice, of_leaving_choice, of_repeat, of_panics, of_returned, of_endless, of_until_break, of_break_off, of_go_on}
+use Rattle.mir_build.specs.Lowering.{by_copy, by_move, Into, of_integer, of_truth, of_variable, of_negative, of_denied, of_cast, of_binary, of_lazy, of_assign, of_update, of_call, of_make, of_part, of_block, of_branch, of_choice, of_leaving_choice, of_repeat, of_panics, of_returned, of_endless, of_until_break, of_break_off, of_go_on}
 use Rattle.mir_build.specs.Lowering.{Rest, of_done, of_last, of_leaving, of_bind, of_run, Args, of_none, of_more, PlaceOf, of_name, of_part_place, of_temporary, IntoBody, of_outermost, of_other}
 use Rattle.mir_build.proofs.Leaving.{panics_scalar, leaving_value, leaving_leaves, leaving_scalar, Serves, itself, at_type, serves_scalar, last_serves, side_serves, sides_serve}
 use Rattle.mir_build.proofs.Taking.{scalar_copy}
@@ -39,6 +39,7 @@ pub data Takes (c : Around) (Γ : List Ty) : List (ℕ × Ty) → Rvalue → Ty 
   of_copy : {T : Ty} (v : ℕ) (p : Place) → slice_get c.scope v ≡ Some p → slice_get Γ v ≡ Some T → Takes c Γ [] (Use (Copy p)) T
   of_minus : {t : ℕ} {T U : Ty} (k : IntKind) → is_signed k ≡ true → U ≡ int k → T ≡ int k → Takes c Γ ((t, T) ∷ []) (Neg (moved t)) U
   of_not : {t : ℕ} {T U : Ty} → U ≡ bool → T ≡ bool → Takes c Γ ((t, T) ∷ []) (Not (moved t)) U
+  of_widening : {t : ℕ} {T U : Ty} (j : IntKind) (k : IntKind) → widens j k ≡ true → U ≡ int k → T ≡ int j → Takes c Γ ((t, T) ∷ []) (Widen (moved t) k) U
   of_operation : {t u : ℕ} {op : BinaryOp} {T U V : Ty} → operation_ty op T ≡ Some V → U ≡ T → Takes c Γ ((u, U) ∷ (t, T) ∷ []) (Binary op (moved t) (moved u)) V
 
 -- `Writes c Γ ts d T xs` is to say of a text that, where the temporaries hold values, it writes a value of the type to local d; `Names c Γ p T xs`
@@ -81,6 +82,9 @@ pub record KeepsTyped (σ : Surroundings) (Writes : Around → List Ty → List 
   pub called : (c : Around) (Γ : List Ty) (s : Span) (f : ℕ) (g : Signature) (ts : List ℕ) (after : Label) (d : ℕ) (T : Ty) (xs : List Line) → slice_get σ.signatures f ≡ Some g → T ≡ g.answer → Passes c Γ ts g.params xs
       → Writes c Γ [] d T (xs ++ calls c s f d ts after ∷ [])
 
+cast_kind : (j k : IntKind) → int j ≡ int k → j ≡ k
+cast_kind j k q = cc
+
 module _ (σ : Surroundings) (Writes : Around → List Ty → List (ℕ × Ty) → ℕ → Ty → List Line → Type 0) (Names : Around → List Ty → Place → Ty → List Line → Type 0) (Passes : Around → List Ty → List ℕ → List Ty → List Line → Type 0)
     (keeps : KeepsTyped σ Writes Names Passes) where
   -- what has a value
@@ -103,6 +107,10 @@ module _ (σ : Surroundings) (Writes : Around → List Ty → List (ℕ × Ty) �
     of_typed i c e d xs (of_variable {ty = ty} x q (by_move k)) Γ h d' U w = absurd (k (scalar_copy c.types ty h.1))
     of_typed i c e d xs (of_negative {t = t} {xs = us} p) Γ h d' U w = valued c Γ _ d _ d' U _ refl w (keeps.made c Γ [] t _ us d _ _ (of_typed i c _ t us p Γ h.4 t _ itself) (keeps.put c Γ _ _ d _ _ (of_minus h.0 h.1 h.2 h.3)))
     of_typed i c e d xs (of_denied {t = t} {xs = us} p) Γ h d' U w = valued c Γ _ d _ d' U _ refl w (keeps.made c Γ [] t _ us d _ _ (of_typed i c _ t us p Γ h.2 t _ itself) (keeps.put c Γ _ _ d _ _ (of_not h.0 h.1)))
+    of_typed i c e d xs (of_cast {k = k} {t = t} {xs = us} p) Γ h d' U w =
+        let same : h.1 ≡ k = cast_kind h.1 k (sym h.3) in
+        valued c Γ _ d _ d' U _ refl w
+        (keeps.made c Γ [] t _ us d _ _ (of_typed i c _ t us p Γ h.5 t _ itself) (keeps.put c Γ _ _ d _ _ (of_widening h.0 k (subst (λ x. widens h.0 x ≡ true) same h.2) refl h.4)))
     of_typed i c e d xs (of_binary {t = t} {u = u} {xs = us} {ys = vs} p q) Γ h d' U w =
         valued c Γ _ d _ d' U _ refl w
         (keeps.made c Γ [] t _ us d _ _ (of_typed i c _ t us p Γ h.2 t _ itself) (keeps.made c Γ _ u _ vs d _ _ (of_typed i c _ u vs q Γ h.3 u _ itself) (keeps.put c Γ _ _ d _ _ (of_operation h.0 h.1))))

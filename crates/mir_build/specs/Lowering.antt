@@ -18,7 +18,7 @@ use Rattle.logic_term.specs.declared.obligation.Contract.{Contract}
 use Rattle.logic_term.specs.declared.subst.Replacement.{Replacement}
 use Rattle.logic_term.specs.Subst.{with_terms}
 use Rattle.logic_term.specs.Term.{Term, var}
-use Rattle.logic_term.specs.Ty.{Ty}
+use Rattle.logic_term.specs.Ty.{Ty, int}
 use Rattle.source_kinds.specs.declared.kinds.LazyOp.{LazyOp}
 use Rattle.source_kinds.specs.declared.kinds.LazyOp.TheVariants as lazy_op
 use Rattle.type_check.specs.declared.program.ClauseKind.{ClauseKind}
@@ -31,7 +31,7 @@ use Rattle.mir_ir.specs.declared.place.Operand.TheVariants.{Copy, Move, Const}
 use Rattle.mir_ir.specs.declared.place.Place.{Place}
 use Rattle.mir_ir.specs.declared.place.Proj.TheVariants.{Field}
 use Rattle.mir_ir.specs.declared.statement.Rvalue.{Rvalue}
-use Rattle.mir_ir.specs.declared.statement.Rvalue.TheVariants.{Use, Binary, Neg, Not, Make}
+use Rattle.mir_ir.specs.declared.statement.Rvalue.TheVariants.{Use, Binary, Neg, Not, Widen, Make}
 use Rattle.mir_ir.specs.declared.statement.StatementKind.TheVariants.{Assign, Dead}
 use Rattle.mir_ir.specs.declared.terminator.FnId.TheVariants as fn_id
 use Rattle.mir_ir.specs.declared.terminator.Callee.TheVariants.{Function}
@@ -53,7 +53,7 @@ use Rattle.type_check.specs.declared.program.TypedFunction.{TypedFunction}
 use Rattle.type_check.specs.declared.program.TypedProgram.{TypedProgram}
 use Rattle.mir_build.specs.declared.around.Loop.{Loop}
 use Rattle.mir_build.specs.declared.lowered.Lowered.{Lowered}
-use Rattle.type_check.specs.TypedExpr.{TypedExpr, TypedStmts, TypedExprs, integer, variable, negative, denied, binary, lazy, assign, update, call, make, part, block, branch, choice, repeat, panics, returned, endless, until_break, break_off, go_on, done, last, leaving, bind, run, none, more}
+use Rattle.type_check.specs.TypedExpr.{TypedExpr, TypedStmts, TypedExprs, integer, variable, negative, denied, cast, binary, lazy, assign, update, call, make, part, block, branch, choice, repeat, panics, returned, endless, until_break, break_off, go_on, done, last, leaving, bind, run, none, more}
 use Rattle.type_check.specs.Leaves.{leaves}
 use Rattle.type_check.specs.TypedExpr as typed
 use Rattle.type_check.specs.TypedExprView.{ty_of, span_of}
@@ -243,6 +243,7 @@ mutual
     of_variable : {c : Around} {ty : Ty} {s : Span} {v d : ℕ} {o : Operand} (p : Place) → slice_get c.scope v ≡ Some p → Takes c.types ty p o → Into c (variable ty s v) d (puts s d (Use o) ∷ [])
     of_negative : {c : Around} {ty : Ty} {s : Span} {e : TypedExpr} {d t : ℕ} {xs : List Line} → Into c e t xs → Into c (negative ty s e) d (made_by t (ty_of e) xs ++ puts s d (Neg (moved t)) ∷ [])
     of_denied : {c : Around} {ty : Ty} {s : Span} {e : TypedExpr} {d t : ℕ} {xs : List Line} → Into c e t xs → Into c (denied ty s e) d (made_by t (ty_of e) xs ++ puts s d (Not (moved t)) ∷ [])
+    of_cast : {c : Around} {k : IntKind} {s : Span} {e : TypedExpr} {d t : ℕ} {xs : List Line} → Into c e t xs → Into c (cast (int k) s e) d (made_by t (ty_of e) xs ++ puts s d (Widen (moved t) k) ∷ [])
     of_binary : {c : Around} {ty : Ty} {s : Span} {op : BinaryOp} {a b : TypedExpr} {d t u : ℕ} {xs ys : List Line} → Into c a t xs → Into c b u ys
         → Into c (binary ty s op a b) d (made_by t (ty_of a) xs ++ (made_by u (ty_of b) ys ++ puts s d (Binary op (moved t) (moved u)) ∷ []))
     of_lazy : {c : Around} {ty : Ty} {s : Span} {op : LazyOp} {a b : TypedExpr} {d t : ℕ} (yes' no' after : Label) {xs ys : List Line} → Into c a t xs → Into c b d ys
@@ -316,6 +317,7 @@ abbrev mutual
   named (of_variable x q k) = []
   named (of_negative p) = named p
   named (of_denied p) = named p
+  named (of_cast p) = named p
   named (of_binary p q) = named p ++ named q
   named (of_lazy yes' no' after p q) = named p ++ yes'.0 ∷ no'.0 ∷ after.0 ∷ named q
   named (of_assign p q) = named p ++ named_place q

@@ -5,17 +5,19 @@ use Rattle.std.specs.List.{range_with_len}
 use Rattle.text_core.specs.declared.span.Span.{Span}
 use Rattle.logic_term.specs.declared.kinds.Label.{Label}
 use Rattle.logic_term.specs.Term as term
-use Rattle.logic_term.specs.Ty.{Ty}
+use Rattle.logic_term.specs.Ty.{Ty, int}
+use Rattle.source_kinds.specs.declared.kinds.IntKind.{IntKind}
+use Rattle.source_kinds.specs.declared.kinds.IntKind.TheVariants.{I32}
 use Rattle.mir_ir.specs.declared.place.Lit.TheVariants as lit
 use Rattle.mir_ir.specs.declared.place.Operand.TheVariants.{Copy}
 use Rattle.mir_ir.specs.declared.place.Place.{Place}
-use Rattle.mir_ir.specs.declared.statement.Rvalue.TheVariants.{Use, Binary, Neg, Not, Make}
+use Rattle.mir_ir.specs.declared.statement.Rvalue.TheVariants.{Use, Binary, Neg, Not, Widen, Make}
 use Rattle.mir_ir.specs.declared.terminator.FnId.TheVariants as fn_id
 use Rattle.mir_ir.specs.declared.terminator.Callee.TheVariants.{Function}
 use Rattle.mir_ir.specs.declared.terminator.TerminatorKind.TheVariants.{Goto, If, Call, Return, Panic}
 use Rattle.type_check.specs.declared.assertion.Assertion.{Assertion}
 use Rattle.type_check.specs.declared.assertion.Assertion.TheVariants.{Good, Bad}
-use Rattle.type_check.specs.TypedExpr.{TypedExpr, TypedStmts, TypedExprs, integer, truth, variable, negative, denied, binary, lazy, assign, update, call, make, part, block, branch, choice, repeat, panics, returned, endless, until_break, break_off, go_on, done, last, leaving, bind, run, none, more}
+use Rattle.type_check.specs.TypedExpr.{TypedExpr, TypedStmts, TypedExprs, integer, truth, variable, negative, denied, cast, binary, lazy, assign, update, call, make, part, block, branch, choice, repeat, panics, returned, endless, until_break, break_off, go_on, done, last, leaving, bind, run, none, more}
 use Rattle.type_check.specs.Leaves.{leaves}
 use Rattle.type_check.specs.TypedExprView.{ty_of}
 use Rattle.mir_build.specs.declared.around.Loop.{Loop}
@@ -37,6 +39,11 @@ between m n = range_with_len m (n - m)
 abbrev pub formula_of : Assertion → Formula
 formula_of (Good s t) = record { span = s; term = t }
 formula_of (Bad e) = record { span = e.span; term = term.truth true }
+
+-- the integer type that a cast has; of another one no row speaks
+abbrev pub kind_of : Ty → IntKind
+kind_of (int k) = k
+kind_of _ = I32
 
 -- ---- the innermost loop
 
@@ -90,6 +97,7 @@ abbrev mutual
   labels (variable ty s v) = 0
   labels (negative ty s e) = labels e
   labels (denied ty s e) = labels e
+  labels (cast ty s e) = labels e
   labels (binary ty s op a b) = labels a + labels b
   labels (lazy ty s op a b) = labels a + 3 + labels b
   labels (assign ty s a e) = labels e + labels a
@@ -128,6 +136,7 @@ abbrev mutual
   locals (variable ty s v) = 0
   locals (negative ty s e) = 1 + locals e
   locals (denied ty s e) = 1 + locals e
+  locals (cast ty s e) = 1 + locals e
   locals (binary ty s op a b) = 1 + locals a + 1 + locals b
   locals (lazy ty s op a b) = 1 + locals a + locals b
   locals (assign ty s a e) = 1 + locals e + temporary_count (is_place a) + locals a
@@ -171,6 +180,7 @@ abbrev mutual
   into (variable ty s v) c l t d = puts s d (Use (taken (is_copied c.types ty) (variable_place c.scope v))) ∷ []
   into (negative ty s e) c l t d = Makes t (ty_of e) ∷ (into e c l (t + 1) t ++ puts s d (Neg (moved t)) ∷ [])
   into (denied ty s e) c l t d = Makes t (ty_of e) ∷ (into e c l (t + 1) t ++ puts s d (Not (moved t)) ∷ [])
+  into (cast ty s e) c l t d = Makes t (ty_of e) ∷ (into e c l (t + 1) t ++ puts s d (Widen (moved t) (kind_of ty)) ∷ [])
   into (binary ty s op a b) c l t d =
       let u = t + 1 + locals a in
       Makes t (ty_of a) ∷ (into a c l (t + 1) t ++ Makes u (ty_of b) ∷ (into b c (l + labels a) (u + 1) u ++ puts s d (Binary op (moved t) (moved u)) ∷ []))

@@ -1,6 +1,6 @@
 -- How many variables have to be in scope around an expression, so that each that it names is there. Contracts of the code alone speak of it.
 use Rattle.std.specs.Prelude.{ℕ, ◌+◌, ◌-◌, max}
-use Rattle.type_check.specs.TypedExpr.{TypedExpr, TypedStmts, TypedExprs, integer, truth, variable, negative, denied, binary, lazy, assign, update, call, make, part, block, branch, choice, repeat, panics, returned, endless, until_break, break_off, go_on, done, last, leaving, bind, run, none, more}
+use Rattle.type_check.specs.TypedExpr.{TypedExpr, TypedStmts, TypedExprs, integer, truth, variable, negative, denied, cast, binary, lazy, assign, update, call, make, part, block, branch, choice, repeat, panics, returned, endless, until_break, break_off, go_on, done, last, leaving, bind, run, none, more}
 
 abbrev mutual
   pub reach : TypedExpr → ℕ
@@ -9,6 +9,7 @@ abbrev mutual
   reach (variable ty s v) = v + 1
   reach (negative ty s e) = reach e
   reach (denied ty s e) = reach e
+  reach (cast ty s e) = reach e
   reach (binary ty s op a b) = max (reach a) (reach b)
   reach (lazy ty s op a b) = max (reach a) (reach b)
   reach (assign ty s a e) = max (reach a) (reach e)

@@ -6,7 +6,7 @@ use Rattle.text_core.specs.declared.span.Span.{Span}
 use Rattle.source_kinds.specs.declared.kinds.LazyOp.{LazyOp}
 use Rattle.mir_ir.specs.declared.place.Operand.TheVariants.{Copy}
 use Rattle.mir_ir.specs.declared.place.Place.{Place}
-use Rattle.mir_ir.specs.declared.statement.Rvalue.TheVariants.{Use, Binary}
+use Rattle.mir_ir.specs.declared.statement.Rvalue.TheVariants.{Use, Binary, Widen}
 use Rattle.type_check.specs.Answers.{or_else}
 use Rattle.type_check.specs.FirstBad.{bad_in}
 use Rattle.type_check.specs.TypedExpr.{TypedExpr, variable, part}
@@ -45,6 +45,7 @@ parts_of_place p (n ∷ ns) = part_place (parts_of_place p ns) n
 
 abbrev pub behind_labels : Behind → ℕ
 behind_labels (behind.Binary op b) = labels b.now
+behind_labels (behind.Cast k) = 0
 behind_labels (behind.Lazy op b) = 3 + labels b.now
 behind_labels (behind.Assign a v) = 0
 behind_labels (behind.Update op a ty v) = 0
@@ -52,6 +53,7 @@ behind_labels (behind.Part e) = 0
 
 abbrev pub behind_locals : Behind → ℕ
 behind_locals (behind.Binary op b) = 1 + locals b.now
+behind_locals (behind.Cast k) = 0
 behind_locals (behind.Lazy op b) = locals b.now
 behind_locals (behind.Assign a v) = 0
 behind_locals (behind.Update op a ty v) = 1
@@ -63,6 +65,7 @@ lazy_text op b s t d c l u = lazily op c s t d (label l) (label (l + 1)) (label 
 
 abbrev pub behind_text : Behind → Span → ℕ → ℕ → Around → ℕ → ℕ → List Line
 behind_text (behind.Binary op b) s t d c l u = Makes u (ty_of b.now) ∷ (into b.now c l (u + 1) u ++ puts s d (Binary op (moved t) (moved u)) ∷ [])
+behind_text (behind.Cast k) s t d c l u = puts s d (Widen (moved t) k) ∷ []
 behind_text (behind.Lazy op b) s t d c l u = lazy_text op b.now s t d c l u
 behind_text (behind.Assign a v) s t d c l u = puts_at s (place_of c.scope t a.now) (Use (moved v)) ∷ put_unit s d ∷ []
 behind_text (behind.Update op a ty v) s t d c l u =
@@ -72,6 +75,7 @@ behind_text (behind.Part e) s t d c l u = puts s d (Use (taken (is_copied c.type
 
 abbrev pub behind_size : Behind → ℕ
 behind_size (behind.Binary op b) = typed_size b.now
+behind_size (behind.Cast k) = 0
 behind_size (behind.Lazy op b) = typed_size b.now
 behind_size (behind.Assign a v) = 0
 behind_size (behind.Update op a ty v) = 0
@@ -79,6 +83,7 @@ behind_size (behind.Part e) = 0
 
 abbrev pub behind_reach : Behind → ℕ
 behind_reach (behind.Binary op b) = reach b.now
+behind_reach (behind.Cast k) = 0
 behind_reach (behind.Lazy op b) = reach b.now
 behind_reach (behind.Assign a v) = reach a.now
 behind_reach (behind.Update op a ty v) = reach a.now
@@ -87,6 +92,7 @@ behind_reach (behind.Part e) = reach e.now
 -- the first formula that is refused
 abbrev pub behind_bad : Behind → Option SourceError
 behind_bad (behind.Binary op b) = bad_in b.now
+behind_bad (behind.Cast k) = None
 behind_bad (behind.Lazy op b) = bad_in b.now
 behind_bad (behind.Assign a v) = None
 behind_bad (behind.Update op a ty v) = None

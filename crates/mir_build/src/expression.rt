@@ -1,8 +1,7 @@
 //! Lowering of expressions: what they add to the text of their body.
-ghost use Rattle.std.specs.Prelude.{true, false, None, ◌&&◌, ◌≡◌, ◌+◌, ◌^◌, ◌≤◌, ◌<◌, ◌*◌, max, ◌∷◌, ◌++◌, [], length, map, OnOk, IfOk, IfErr};
+ghost use Rattle.std.specs.Prelude.{true, false, None, ◌≡◌, ◌+◌, ◌^◌, ◌≤◌, ◌<◌, ◌*◌, max, ◌∷◌, ◌++◌, [], length, map, OnOk, IfOk, IfErr};
 ghost use Rattle.type_check.specs.Answers.{or_else};
 ghost use Rattle.type_check.specs.FirstBad.{bad_among, bad_in, bad_in_exprs, bad_in_stmts};
-ghost use Rattle.type_check.specs.Leaves.{leaves};
 ghost use Rattle.type_check.specs.TypedExpr.{negative, denied, assign, update, branch, choice, repeat, call, make};
 ghost use Rattle.type_check.specs.TypedExprView.{ty_of, stmts_of, exprs_of, typed_size};
 ghost use Rattle.type_check.specs.WellTyped.{unit};
@@ -22,9 +21,9 @@ use crate::assignment::{is_variable, lower_place, put_assign, put_update, root_o
 use crate::binding::end_bindings;
 use crate::block_end::BlockEnd;
 use crate::builder::{Builder, moved, whole};
-use crate::jump::{lower_break, lower_continue};
+use crate::jump::{both_leave, lower_break, lower_continue};
 use crate::looping::{end_loop, enter_loop, leave_loop};
-use crate::operand::{push_left, take, take_place, type_of};
+use crate::operand::{kind_of, push_left, take, take_place, type_of};
 use crate::stop::Stop;
 use crate::task::{Behind, Pending, Task};
 use logic_term::{Ctor, Label};
@@ -32,7 +31,7 @@ use mir_ir::{Callee, FnId, Lit, Operand, Rvalue, TerminatorKind};
 use source_kinds::{BinaryOp, LazyOp};
 use std::alloc::Global;
 use text_core::{Items, Span};
-use type_check::{Assertion, TypedExpr, TypedNode, TypedStmt, leaves};
+use type_check::{Assertion, TypedExpr, TypedNode, TypedStmt};
 
 /// A new local that holds the value.
 #[cycle(lower)]
@@ -152,6 +151,17 @@ fn lower_left<'a>(
         TypedNode::Variable(_) | TypedNode::Part(_, _) => take_place(alloc, b, c, e, d, tasks),
         TypedNode::Neg(x) => lower_neg(alloc, b, c, span, x, d),
         TypedNode::Not(x) => lower_not(alloc, b, c, span, x, d),
+        TypedNode::Cast(x) => {
+            push_left(
+                alloc,
+                b,
+                span,
+                x,
+                d,
+                Behind::Cast(kind_of(type_of(e))),
+                tasks,
+            )
+        }
         TypedNode::Call(f, es) => lower_call(alloc, b, c, span, *f, es, d),
         TypedNode::Make(k, es) => lower_make(alloc, b, c, span, *k, es, d),
         TypedNode::Block(ss) => lower_rest(alloc, b, c, false, span, ss, BlockEnd::Unit, d),
@@ -197,6 +207,10 @@ fn lower_behind(
         Behind::Binary(op, right) => {
             let y = lower_new(alloc, b, c, right)?;
             let value = Rvalue::Binary(op, moved(alloc, x), moved(alloc, y));
+            Ok(b.put(alloc, span, d, value)?)
+        }
+        Behind::Cast(kind) => {
+            let value = Rvalue::Widen(moved(alloc, x), kind);
             Ok(b.put(alloc, span, d, value)?)
         }
         Behind::Lazy(op, right) => lower_lazy(alloc, b, c, span, op, x, right, d),
@@ -422,12 +436,6 @@ fn lower_branch(
     b.put_unit(alloc, span, d)?;
     b.go(alloc, c, span, after, after)?;
     Ok(())
-}
-
-fn both_leave(x: &TypedExpr, y: &TypedExpr) -> bool
-    ensures { result ≡ (leaves x.now && leaves y.now) }
-{
-    leaves(x) && leaves(y)
 }
 
 /// `if` with `else`.

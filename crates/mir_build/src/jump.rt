@@ -1,5 +1,6 @@
 //! Out of the innermost loop, and on to its next turn.
-ghost use Rattle.std.specs.Prelude.{◌≡◌, length, OnOk};
+ghost use Rattle.std.specs.Prelude.{◌≡◌, ◌&&◌, length, OnOk};
+ghost use Rattle.type_check.specs.Leaves.{leaves};
 ghost use Rattle.mir_build.specs.Lowering.{die_from};
 ghost use Rattle.mir_build.specs.Numbered.{jump, loop_at};
 ghost use Rattle.mir_build.specs.Built.{written, around};
@@ -9,6 +10,7 @@ use crate::builder::Builder;
 use logic_term::Label;
 use mir_ir::TerminatorKind;
 use text_core::{NoMemory, Span};
+use type_check::{TypedExpr, leaves};
 
 /// What is bound behind the first `depth` variables in scope ends, the innermost first. It stays in scope.
 fn end_inside(b: &mut Builder, c: &Around, span: Span, depth: usize) -> Result<(), NoMemory>
@@ -59,4 +61,11 @@ pub(crate) fn lower_continue(b: &mut Builder, c: &Around, span: Span) -> Result<
 {
     let inner = innermost(c);
     lower_jump(b, c, span, inner.depth, inner.head)
+}
+
+/// Whether both sides of a choice leave.
+pub(crate) fn both_leave(x: &TypedExpr, y: &TypedExpr) -> bool
+    ensures { result ≡ (leaves x.now && leaves y.now) }
+{
+    leaves(x) && leaves(y)
 }

@@ -4,7 +4,7 @@ ghost use Rattle.type_check.specs.FirstBad.{bad_in};
 ghost use Rattle.type_check.specs.TypedExprView.{ty_of, span_of, typed_size};
 ghost use Rattle.mir_build.specs.Text.{Makes};
 ghost use Rattle.mir_build.specs.Lowering.{is_place};
-ghost use Rattle.mir_build.specs.Numbered.{into, labels, locals};
+ghost use Rattle.mir_build.specs.Numbered.{into, kind_of, labels, locals};
 ghost use Rattle.mir_build.specs.Reach.{reach};
 ghost use Rattle.mir_build.specs.Built.{written, around};
 ghost use Rattle.mir_build.specs.Taking.{is_copied, taken};
@@ -17,9 +17,10 @@ use crate::assignment::{is_variable, lower_place, root_of};
 use crate::builder::Builder;
 use crate::stop::Stop;
 use crate::task::{Behind, Pending, Task};
-use logic_term::Ty;
+use logic_term::{Ty, TyNode};
 use mir_ir::{Operand, Place, Rvalue};
 use rs_types::CopyTypes;
+use source_kinds::IntKind;
 use std::alloc::Global;
 use text_core::Span;
 use type_check::TypedExpr;
@@ -36,6 +37,16 @@ pub(crate) fn value_span(e: &TypedExpr) -> Span
     ensures { result ≡ span_of e.now }
 {
     e.span
+}
+
+/// The integer type of a cast.
+pub(crate) fn kind_of(ty: &Ty) -> IntKind
+    ensures { result ≡ kind_of ty.now }
+{
+    match ty.node {
+        TyNode::Int(kind) => kind,
+        _ => IntKind::I32,
+    }
 }
 
 /// The left operand is next, which goes to a new local, and then the rest of the expression, which goes to local `target`.

@@ -1,7 +1,7 @@
 //! What is left to do of an expression whose left operands are lowered by a loop.
 
 use logic_term::Ty;
-use source_kinds::{BinaryOp, LazyOp};
+use source_kinds::{BinaryOp, IntKind, LazyOp};
 use text_core::Span;
 use type_check::TypedExpr;
 
@@ -11,6 +11,8 @@ pub(crate) enum Behind<'a> {
     /// The right operand.
     Binary(BinaryOp, &'a TypedExpr),
     Lazy(LazyOp, &'a TypedExpr),
+    /// The type of a cast.
+    Cast(IntKind),
     /// What is assigned to, at whose root the left operand is, and the local of the value.
     Assign(&'a TypedExpr, u32),
     /// The same, and the type of the value.

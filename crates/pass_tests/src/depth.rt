@@ -11,7 +11,7 @@ const LEVELS: usize = 60;
 /// How many operators a chain has at most.
 const LINKS: usize = 256;
 
-/// How many it has where each makes obligations, of which all those before it are known.
+/// How many it has where each makes obligations or a variable, of which all those before it are known.
 const FEW_LINKS: usize = 64;
 
 /// What the passes answer.
@@ -26,7 +26,7 @@ enum Answer {
 /// behind the levels; how many links there are; and the answer.
 type Row = ([&'static [u8]; 6], usize, Answer);
 
-const CODE: [Row; 10] = [
+const CODE: [Row; 11] = [
     (
         [b"fn f(x: u64) -> u64 { ", b"(", b"x", b" + 1", b")", b" }"],
         FEW_LINKS,
@@ -57,6 +57,18 @@ const CODE: [Row; 10] = [
     (
         [b"fn f(x: i64) -> i64 { ", b"-", b"x", b"", b"", b" }"],
         LINKS,
+        Answer::Prepared,
+    ),
+    (
+        [
+            b"fn f(x: u64) -> u64 { ",
+            b"(",
+            b"x",
+            b" as u64",
+            b")",
+            b" }",
+        ],
+        FEW_LINKS,
         Answer::Prepared,
     ),
     (

@@ -40,7 +40,7 @@ const NOT_BUILT: [Row; 57] = [
     (b"fn f() { g((1, 2), x.y) }", Code::E20, 11, 12),
     (b"fn f() { f(x)(y) }", Code::E20, 9, 10),
     (b"fn f() { 1 + a.b(2) }", Code::E20, 13, 14),
-    (b"fn f() { x as u8 }", Code::E20, 9, 10),
+    (b"fn f() { x as &u8 }", Code::E20, 14, 15),
     (b"fn f() { S { a: 1 } }", Code::E20, 9, 10),
     (b"fn f() { a::b }", Code::E20, 9, 10),
     (b"fn f() { let _ = 1; }", Code::E20, 13, 14),
@@ -59,10 +59,10 @@ const NOT_BUILT: [Row; 57] = [
     (b"fn f<T>(x: i8) {}", Code::E20, 4, 5),
     (b"fn f() {} #[allow(a)] pub trait T {}", Code::E20, 26, 31),
     (
-        b"#[requires(exists<x: Int> x == x)] fn f() {}",
+        b"#[requires(match x { _ => true })] fn f(x: i8) {}",
         Code::E20,
         11,
-        17,
+        16,
     ),
     (
         b"#[requires(forall<x: Int, y: S<Int>> true)] fn f() {}",

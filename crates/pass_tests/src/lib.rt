@@ -2,6 +2,8 @@
 #![tactic(auto)]
 
 #[cfg(test)]
+mod cast_bodies;
+#[cfg(test)]
 mod depth;
 #[cfg(test)]
 mod functions;

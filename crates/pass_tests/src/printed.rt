@@ -34,6 +34,7 @@ fn value_word(value: &Rvalue) -> &'static str {
         Rvalue::Use(_) => "use",
         Rvalue::Binary(_, _, _) => "binary",
         Rvalue::Make(_, _) => "make",
+        Rvalue::BoxNew(_) => "box",
         Rvalue::Neg(_) => "negate",
         Rvalue::Not(_) => "not",
         Rvalue::Widen(_, _) => "widen",
@@ -64,7 +65,9 @@ fn push_copied(out: &mut String, operand: &Operand) -> Result<(), AllocError> {
 /// What a value is made of, and a part that is copied first.
 fn push_operands(out: &mut String, value: &Rvalue) -> Result<(), AllocError> {
     match value {
-        Rvalue::Use(operand) | Rvalue::Binary(_, operand, _) => push_copied(out, operand),
+        Rvalue::Use(operand) | Rvalue::Binary(_, operand, _) | Rvalue::BoxNew(operand) => {
+            push_copied(out, operand)
+        }
         Rvalue::Make(_, operands) => {
             if !operands.is_empty() {
                 out.push_str(" of")?;
@@ -100,7 +103,7 @@ fn push_statements(out: &mut String, statements: &[Statement]) -> Result<(), All
     Ok(())
 }
 
-/// What an end is, and the labels that it leads to.
+/// What an end is, and the labels that it leads to; those of a switch are not among them.
 fn end_words(kind: &TerminatorKind) -> (&'static str, Option<Label>, Option<Label>) {
     match kind {
         TerminatorKind::Goto(label) => ("goto", Some(*label), None),
@@ -108,6 +111,7 @@ fn end_words(kind: &TerminatorKind) -> (&'static str, Option<Label>, Option<Labe
         TerminatorKind::Return => ("return", None, None),
         TerminatorKind::Call(_, _, _, _, label) => ("call", Some(*label), None),
         TerminatorKind::Panic(_) => ("panic", None, None),
+        TerminatorKind::Switch(_, _) => ("switch", None, None),
     }
 }
 
@@ -124,6 +128,11 @@ fn push_end(out: &mut String, end: &Terminator) -> Result<(), AllocError> {
     write!(out, " {word}")?;
     push_label(out, first)?;
     push_label(out, second)?;
+    if let TerminatorKind::Switch(_, labels) = &end.kind {
+        for label in labels.as_slice() {
+            push_label(out, Some(*label))?;
+        }
+    }
     write!(out, " @{start}\n")
 }
 

@@ -584,10 +584,7 @@ const QUANTIFIED_TERMS: [Row; 20] = [
         b"struct S; #[requires(forall<k: Int, s: S> k)] fn f() {}",
         Some((Code::E20, 39, 40)),
     ),
-    (
-        b"#[requires(forall<p: (Int, bool)> true)] fn f() {}",
-        Some((Code::E20, 21, 32)),
-    ),
+    (b"#[requires(forall<p: (Int, bool)> true)] fn f() {}", None),
     (
         b"#[requires(forall<p: Box<Int>> true)] fn f() {}",
         Some((Code::E20, 21, 29)),
@@ -617,6 +614,51 @@ const QUANTIFIED_TERMS: [Row; 20] = [
 #[test]
 fn quantified_terms(rt: HostRuntime) {
     expect(&rt, rt.alloc(), &QUANTIFIED_TERMS);
+}
+
+const TUPLE_TERMS: [Row; 12] = [
+    (b"#[requires((x@, true).0 == 1)] fn f(x: i32) {}", None),
+    (b"#[requires((1, 2) == (x@, 2))] fn f(x: i32) {}", None),
+    (
+        b"#[requires((1, 2) == (1, true))] fn f() {}",
+        Some((Code::E07, 21, 30)),
+    ),
+    (
+        b"#[requires((1, 2).2 == 1)] fn f() {}",
+        Some((Code::E05, 18, 19)),
+    ),
+    (
+        b"#[requires((1, 2).0u8 == 1)] fn f() {}",
+        Some((Code::E05, 18, 21)),
+    ),
+    (
+        b"#[requires(x.0 == 1)] fn f(x: i32) {}",
+        Some((Code::E05, 13, 14)),
+    ),
+    (
+        b"#[requires((x, y).0 == 1)] fn f() {}",
+        Some((Code::E05, 12, 13)),
+    ),
+    (b"#[requires(((1, true), 2).0.1)] fn f() {}", None),
+    (
+        b"#[requires(forall<p: (Int, bool)> p.1 ==> p.0 == 0)] fn f() {}",
+        None,
+    ),
+    (b"#[requires(() == ())] fn f() {}", None),
+    (
+        b"#[requires((1, 2).0)] fn f() {}",
+        Some((Code::E07, 11, 19)),
+    ),
+    (
+        b"struct S; #[requires(forall<p: (Int, S)> true)] fn f() {}",
+        Some((Code::E20, 37, 38)),
+    ),
+];
+
+/// Tuples and their parts.
+#[test]
+fn tuple_terms(rt: HostRuntime) {
+    expect(&rt, rt.alloc(), &TUPLE_TERMS);
 }
 
 const CHOICE_TERMS: [Row; 6] = [

@@ -1,5 +1,5 @@
 -- What an expression comes to, it comes to by the rules; and by the rules to one thing.
-use Rattle.std.proofs.Common.{◌≡◌, refl, sym, subst, List, [], Option, Some, None, Result, Ok, Err}
+use Rattle.std.proofs.Common.{◌≡◌, Bool, true, false, refl, sym, subst, List, [], Option, Some, None, Result, Ok, Err}
 use Rattle.text_core.specs.declared.refusal.SourceError.{SourceError}
 use Rattle.text_core.specs.declared.span.Span.{Span}
 use Rattle.logic_term.specs.declared.declaration.FieldDecl.{FieldDecl}
@@ -8,6 +8,7 @@ use Rattle.logic_term.specs.Ty.{Ty, bool}
 use Rattle.source_trees.specs.declared.operator.UnaryOp.TheVariants.{Neg, Not}
 use Rattle.source_trees.specs.Expr as E
 use Rattle.source_trees.specs.Expr.{Expr}
+use Rattle.source_trees.specs.TypeTree.{TypeTree}
 use Rattle.type_check.specs.declared.operands.Operands.{Operands}
 use Rattle.type_check.specs.declared.operands.Order.{Order}
 use Rattle.type_check.specs.declared.operands.Order.TheVariants as order
@@ -18,10 +19,10 @@ use Rattle.type_check.specs.Setting.{Setting, looping, outside}
 use Rattle.type_check.specs.TypedExpr.{TypedExpr, TypedExprs}
 use Rattle.type_check.specs.TypedExpr as tree
 use Rattle.type_check.specs.TypedExprView.{ty_of}
-use Rattle.type_check.specs.Typing.{Typed, is_bare, order_of, operands_of, operands, callee_of, params_of, first_of, rest_of, Opened, opened, declared, behind, typed_stmt, given, invariant_of, parts_of, next_field, fields_behind, no_field_left, typed, typed_stmts, typed_args, typed_fields}
+use Rattle.type_check.specs.Typing.{Typed, is_bare, order_of, operands_of, operands, cast_parts, widened, callee_of, params_of, first_of, rest_of, Opened, opened, declared, behind, typed_stmt, given, invariant_of, parts_of, next_field, fields_behind, no_field_left, typed, typed_stmts, typed_args, typed_fields}
 use Rattle.type_check.specs.WellTyped.{unit, is_arithmetic}
-use Rattle.type_check.specs.Written.{step_of}
-use Rattle.type_check.specs.Rules.{Asks, comes, part, first, operands_in, each_arg, each_field, each_stmt, rule, Types, by_rule, Comes, itself, refused, then, TypedByRules, TypingIsOne}
+use Rattle.type_check.specs.Written.{step_of, written_type}
+use Rattle.type_check.specs.Rules.{Asks, comes, part, first, operands_in, cast_in, each_arg, each_field, each_stmt, rule, Types, by_rule, Comes, itself, refused, then, TypedByRules, TypingIsOne}
 
 -- ---- one outcome
 
@@ -80,10 +81,23 @@ at_operands σ order.FirstGives Γ a b k f one other h =
     at_part_in σ Γ a None (typed σ Γ a None) _ (λ x. typed σ Γ b (Some (ty_of x)) >>= λ y. Ok (operands_of x y)) f (one None)
     (λ x. at_part_in σ Γ b (Some (ty_of x)) (typed σ Γ b (Some (ty_of x))) _ (λ y. Ok (operands_of x y)) f (other (Some (ty_of x))) (λ y. h (operands_of x y)))
 
+at_target : (m : Result Ty SourceError) (a : TypedExpr) (k : TypedExpr × Ty → Asks) (f : TypedExpr × Ty → Typed) → Follows k f → Comes (first m λ u. k (a, u)) ((m >>= λ u. Ok (a, u)) >>= f)
+at_target (Ok u) a k f h = h (a, u)
+at_target (Err e) a k f h = itself
+
+at_cast : (σ : Setting) (bare : Bool) (Γ : List Variable) (e : Expr) (w : TypeTree) (k : TypedExpr × Ty → Asks) (f : TypedExpr × Ty → Typed) → Each σ Γ e → Follows k f
+    → Comes (cast_in σ bare Γ e w k) (cast_parts bare (typed σ Γ e) (written_type σ.types w) >>= f)
+at_cast σ true Γ e w k f each h =
+    subst (Comes (cast_in σ true Γ e w k)) (sym (assoc (written_type σ.types w) (λ u. typed σ Γ e (Some u) >>= λ a. Ok (a, u)) f))
+    (at_first (written_type σ.types w) _ _ (λ u. at_part_in σ Γ e (Some u) (typed σ Γ e (Some u)) _ (λ a. Ok (a, u)) f (each (Some u)) (λ a. h (a, u))))
+at_cast σ false Γ e w k f each h =
+    at_part_in σ Γ e None (typed σ Γ e None) _ (λ a. written_type σ.types w >>= λ u. Ok (a, u)) f (each None) (λ a. at_target (written_type σ.types w) a k f h)
+
 mutual
   types : (σ : Setting) (Γ : List Variable) (e : Expr) (t : Option Ty) → Types σ Γ e t (typed σ Γ e t)
   types σ Γ (E.unary s Neg o e) t = by_rule (at_part σ Γ e t (typed σ Γ e t) _ _ (types σ Γ e t) (λ a. itself))
   types σ Γ (E.unary s Not o e) t = by_rule (at_part σ Γ e (Some bool) (typed σ Γ e (Some bool)) _ _ (types σ Γ e (Some bool)) (λ a. itself))
+  types σ Γ (E.cast s e w) t = by_rule (at_cast σ (is_bare e) Γ e w _ _ (λ u. types σ Γ e u) (λ p. itself))
   types σ Γ (E.binary s op o a b) t = by_rule (at_operands σ (order_of (is_arithmetic op) t (is_bare a) (is_bare b)) Γ a b _ _ (λ u. types σ Γ a u) (λ u. types σ Γ b u) (λ p. itself))
   types σ Γ (E.lazy s op a b) t = by_rule
       (at_part σ Γ a (Some bool) (typed σ Γ a (Some bool)) _ _ (types σ Γ a (Some bool)) (λ x. at_part σ Γ b (Some bool) (typed σ Γ b (Some bool)) _ _ (types σ Γ b (Some bool)) (λ y. itself)))

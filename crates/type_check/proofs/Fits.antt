@@ -6,7 +6,7 @@ use Rattle.text_core.specs.declared.name.Name.{Name}
 use Rattle.text_core.specs.declared.span.Span.{Span}
 use Rattle.source_kinds.specs.declared.kinds.BinaryOp.{BinaryOp}
 use Rattle.source_kinds.specs.declared.kinds.IntKind.{IntKind}
-use Rattle.source_kinds.specs.Range.{fits}
+use Rattle.source_kinds.specs.Range.{fits, widens}
 use Rattle.logic_term.specs.declared.declaration.AdtDecl.{AdtDecl}
 use Rattle.logic_term.specs.declared.declaration.FieldDecl.{FieldDecl}
 use Rattle.logic_term.specs.declared.declaration.VariantKind.TheVariants.{Named, Numbered, Unit as Alone}
@@ -30,6 +30,7 @@ use Rattle.source_trees.specs.Expr as E
 use Rattle.source_trees.specs.Expr.{Expr}
 use Rattle.source_trees.specs.ExprView.{span_of}
 use Rattle.source_trees.specs.TypeTree.{TypeTree}
+use Rattle.source_trees.specs.TypeTreeView.{span_of as type_span}
 use Rattle.type_check.specs.declared.assertion.Assertion.{Assertion}
 use Rattle.type_check.specs.declared.heading.Callee.{Callee}
 use Rattle.type_check.specs.declared.heading.Heading.{Heading}
@@ -55,7 +56,7 @@ use Rattle.type_check.specs.TypedExpr.{TypedExpr, TypedStmts, TypedExprs}
 use Rattle.type_check.specs.TypedExpr as tree
 use Rattle.type_check.specs.TypedExprView.{ty_of, stmt_of, stmts_of}
 use Rattle.type_check.specs.Types.{same_ty, is_signed_ty, is_built, are_built}
-use Rattle.type_check.specs.Typing.{Typed, fit, literal_kind, literal_of, literal, negated, is_bare, order_without, order_of, operands_of, operands, operation, operated, may_write, if_mutable, writing, assigned}
+use Rattle.type_check.specs.Typing.{Typed, fit, literal_kind, literal_of, literal, negated, is_bare, order_without, order_of, operands_of, operands, operation, operated, cast_parts, cast_from, widened, may_write, if_mutable, writing, assigned}
 use Rattle.type_check.specs.Typing.{is_updated, updated, local_of, made_alone, named_by, named, Called, of_function, of_maker, field_tys, maker_called, constructor_called, or_constructor, unless_local, called_by, callee_of, params_of, how_many, first_of, rest_of, call_of, called, block_ty, declared, Opened, opened, typed_stmt, behind, without_last, closed, asked, given, choice_ty, cause_of, panicked, nothing, returned, bare_return, endless, in_a_loop, invariant_by, invariant_of, listed, parts_of, tupled, is_boxed, part_number, part_if, field_of, part_by, parted, selected, typed, typed_stmts, typed_args, typed_fields}
 use Rattle.type_check.specs.Typing.{not_next, built_field, next_field, fields_behind, no_field_left, literal_made}
 use Rattle.type_check.specs.WellTyped.{unit, Surroundings, IsBuilt, PartsAreBuilt, AllBuilt, field_at, part_ty, tys_of_exprs, PartsFit, is_arithmetic, is_equality, operation_ty, is_signed, IsOf, IsOfOrLeaves, SpeaksOf, EachSpeaks, IsWellTyped, StatementsFit, ArgumentsFit}
@@ -157,6 +158,30 @@ operation_sound σ Γ (Some u) t s o r op p e q b h = fit_sound σ Γ t s (tree.
 operated_sound : (σ : Setting) (Γ : List Variable) (t : Option Ty) (s o r : Span) (op : BinaryOp) (p : Operands) (e : TypedExpr) → BothSound σ Γ p → operated t s o r op p ≡ Ok e → Sound σ Γ t e
 unfolding operated
 operated_sound σ Γ t s o r op p e b h = operation_sound σ Γ (operation_ty op (ty_of p.left)) t s o r op p e refl b h
+
+-- ---- casts
+
+cast_sound : (σ : Setting) (Γ : List Variable) (u v : Ty) (t : Option Ty) (s o r : Span) (a e : TypedExpr) → IsWellTyped (surroundings σ) (types Γ) a → ty_of a ≡ u → cast_from u v t s o r a ≡ Ok e → Sound σ Γ t e
+cast_sound σ Γ (int j) (int k) t s o r a e w q p =
+    let c = held (widens j k) (fit t s (tree.cast (int k) s a)) (mismatch s) e p in
+    fit_sound σ Γ t s (tree.cast (int k) s a) e (j, k, c.0, refl, q, w) tt c.1
+cast_sound σ Γ (int j) _ t s o r a e w q p = absurd (cc)
+cast_sound σ Γ _ v t s o r a e w q p = absurd (cc)
+
+widened_sound : (σ : Setting) (Γ : List Variable) (t : Option Ty) (s o r : Span) (p : TypedExpr × Ty) (e : TypedExpr) → IsWellTyped (surroundings σ) (types Γ) p.0 → widened t s o r p ≡ Ok e → Sound σ Γ t e
+unfolding widened
+widened_sound σ Γ t s o r p e w q = cast_sound σ Γ (ty_of p.0) p.1 t s o r p.0 e w refl q
+
+-- the operand is what it is at some type that may be asked
+operand_typed : (ds : List AdtDecl) (bare : Bool) (operand : Option Ty → Typed) (w : TypeTree) (p : TypedExpr × Ty) → cast_parts bare operand (written_type ds w) ≡ Ok p → (t : Option Ty) × MayAsk t × (operand t ≡ Ok p.0)
+operand_typed ds true operand w p q =
+    let u = bound (written_type ds w) _ p q in
+    let a = bound (operand (Some u.0)) _ p u.2 in
+    (Some u.0, type_built ds w u.0 u.1, a.1 ∙ ap (λ x. Ok x.0) (same_ok (a.0, u.0) p a.2))
+operand_typed ds false operand w p q =
+    let a = bound (operand None) _ p q in
+    let u = bound (written_type ds w) _ p a.2 in
+    (None, tt, a.1 ∙ ap (λ x. Ok x.0) (same_ok (a.0, u.0) p u.2))
 
 -- ---- assignments
 
@@ -604,6 +629,10 @@ mutual
       let a = bound (typed σ Γ e (Some bool)) _ r p in
       let sa = typed_sound σ Γ e (Some bool) a.0 ho tt a.1 in
       fit_sound σ Γ t s (tree.denied bool s a.0) r (refl, sa.meets, sa.well) tt a.2
+  typed_sound σ Γ (E.cast s e w) t r ho ht p =
+      let q = bound (cast_parts (is_bare e) (typed σ Γ e) (written_type σ.types w)) _ r p in
+      let a = operand_typed σ.types (is_bare e) (typed σ Γ e) w q.0 q.1 in
+      widened_sound σ Γ t s (span_of e) (type_span w) q.0 r (typed_sound σ Γ e a.0 q.0.0 ho a.1 a.2).well q.2
   typed_sound σ Γ (E.binary s op o a b) t r ho ht p =
       let q = bound (operands (order_of (is_arithmetic op) t (is_bare a) (is_bare b)) (typed σ Γ a) (typed σ Γ b)) _ r p in
       operated_sound σ Γ t s o (span_of a) op q.0 r

@@ -6,7 +6,7 @@ use Rattle.text_core.specs.declared.refusal.SourceError.{SourceError}
 use Rattle.text_core.specs.declared.span.Span.{Span}
 use Rattle.source_kinds.specs.declared.kinds.BinaryOp.{BinaryOp}
 use Rattle.source_kinds.specs.declared.kinds.IntKind.{IntKind}
-use Rattle.source_kinds.specs.Range.{fits}
+use Rattle.source_kinds.specs.Range.{fits, widens}
 use Rattle.logic_term.specs.declared.declaration.AdtDecl.{AdtDecl}
 use Rattle.logic_term.specs.declared.declaration.FieldDecl.{FieldDecl}
 use Rattle.logic_term.specs.declared.declaration.VariantKind.TheVariants.{Named, Unit as Alone}
@@ -27,6 +27,7 @@ use Rattle.source_trees.specs.Expr.{Expr}
 use Rattle.source_trees.specs.ExprView.{span_of}
 use Rattle.source_trees.specs.Pat as P
 use Rattle.source_trees.specs.TypeTree as W
+use Rattle.source_trees.specs.TypeTreeView.{span_of as type_span}
 use Rattle.type_check.specs.declared.assertion.Assertion.{Assertion}
 use Rattle.type_check.specs.declared.heading.Callee.{Callee}
 use Rattle.type_check.specs.declared.heading.Heading.{Heading}
@@ -38,7 +39,7 @@ use Rattle.type_check.specs.declared.scope.Found.{Found}
 use Rattle.type_check.specs.declared.scope.Variable.{Variable}
 use Rattle.type_check.specs.declared.statements.Step.{Step}
 use Rattle.type_check.specs.Answers.{◌>>=◌, unknown_name, mismatch, unbuilt, not_mutable, with_some, gather}
-use Rattle.type_check.specs.Causes.{IsMismatch, IsUnbuilt, IsNoValue, IsNotWritten, IsNotCalled, IsNoPart, IsNoField, IsNoType, root_name, Causes, CausesInStmts, CausesInArgs, CausesInFields}
+use Rattle.type_check.specs.Causes.{IsMismatch, IsUnbuilt, IsNoValue, IsNotWritten, IsNotCalled, IsNoPart, IsNoField, IsNoType, IsNoTarget, root_name, Causes, CausesInStmts, CausesInArgs, CausesInFields}
 use Rattle.type_check.specs.Constructors.{Maker, maker_of}
 use Rattle.type_check.specs.Scope.{found}
 use Rattle.type_check.specs.Breaks.{breaks}
@@ -47,7 +48,7 @@ use Rattle.type_check.specs.TypedExpr.{TypedExpr, TypedStmts, TypedExprs}
 use Rattle.type_check.specs.TypedExpr as tree
 use Rattle.type_check.specs.TypedExprView.{ty_of, stmts_of}
 use Rattle.type_check.specs.Types.{same_ty, is_signed_ty, is_built}
-use Rattle.type_check.specs.Typing.{Typed, fit, literal_kind, literal_of, literal, negated, is_bare, order_of, operands_of, operands, operation, operated, may_write, if_mutable, writing, assigned}
+use Rattle.type_check.specs.Typing.{Typed, fit, literal_kind, literal_of, literal, negated, is_bare, order_of, operands_of, operands, operation, operated, cast_parts, cast_from, widened, may_write, if_mutable, writing, assigned}
 use Rattle.type_check.specs.Typing.{is_updated, updated, local_of, made_alone, named_by, named, Called, of_function, of_maker, callee_of, params_of, call_of, how_many, first_of, rest_of, called, asked, block_ty, declared, behind, typed_stmt, without_last, closed, given, choice_ty, cause_of, nothing, returned, endless, in_a_loop, invariant_by, invariant_of, parts_of, tupled, is_boxed, part_number, part_if, field_of, part_by, parted, selected, next_field, fields_behind, no_field_left, literal_made, typed, typed_stmts, typed_args, typed_fields}
 use Rattle.type_check.specs.WellTyped.{unit, is_arithmetic, operation_ty, tys_of_exprs}
 use Rattle.type_check.specs.Written.{name_alone, written_type, written_or_none, name_or, declared_by, step_of}
@@ -111,6 +112,36 @@ operands_stop order.FirstGives f g e p =
     elim (stop (f None) _ e p) as (λ _. OneStops f g e) [
       | inl q ↦ inl (None, q)
       | inr a ↦ elim (stop (g (Some (ty_of a.0))) _ e a.2) as (λ _. OneStops f g e) [ inl q ↦ inr (Some (ty_of a.0), q) | inr b ↦ no_operands a.0 b.0 f g e b.2 ]
+    ]
+
+-- ---- casts
+
+cast_stops : (u v : Ty) (t : Option Ty) (s o r : Span) (a : TypedExpr) (e : SourceError) → cast_from u v t s o r a ≡ Err e → IsMismatch e
+cast_stops (int j) (int k) t s o r a e p = unheld (widens j k) (fit t s (tree.cast (int k) s a)) s e (fit_stops t s (tree.cast (int k) s a) e) p
+cast_stops (int j) _ t s o r a e p = let q : mismatch r ≡ e = cc in (r, sym q)
+cast_stops _ v t s o r a e p = let q : mismatch o ≡ e = cc in (o, sym q)
+
+widened_stops : (t : Option Ty) (s o r : Span) (p : TypedExpr × Ty) (e : SourceError) → widened t s o r p ≡ Err e → IsMismatch e
+unfolding widened
+widened_stops t s o r p e h = cast_stops (ty_of p.0) p.1 t s o r p.0 e h
+
+-- the operand stops, at some expected type, or the written type does
+abbrev pub CastStops : (Option Ty → Typed) → Result Ty SourceError → SourceError → Type 0
+CastStops f m e = ((t : Option Ty) × (f t ≡ Err e)) ⊎ (m ≡ Err e)
+
+no_parts : (p : TypedExpr × Ty) (f : Option Ty → Typed) (m : Result Ty SourceError) (e : SourceError) → yes p ≡ Err e → CastStops f m e
+no_parts p f m e q = absurd (cc)
+
+cast_parts_stop : (bare : Bool) (f : Option Ty → Typed) (m : Result Ty SourceError) (e : SourceError) → cast_parts bare f m ≡ Err e → CastStops f m e
+cast_parts_stop true f m e p =
+    elim (stop m _ e p) as (λ _. CastStops f m e) [
+      | inl q ↦ inr q
+      | inr u ↦ elim (stop (f (Some u.0)) _ e u.2) as (λ _. CastStops f m e) [ inl q ↦ inl (Some u.0, q) | inr a ↦ no_parts (a.0, u.0) f m e a.2 ]
+    ]
+cast_parts_stop false f m e p =
+    elim (stop (f None) _ e p) as (λ _. CastStops f m e) [
+      | inl q ↦ inl (None, q)
+      | inr a ↦ elim (stop m _ e a.2) as (λ _. CastStops f m e) [ inl q ↦ inr q | inr u ↦ no_parts (a.0, u.0) f m e u.2 ]
     ]
 
 -- ---- assignments
@@ -325,6 +356,14 @@ mutual
       elim (stop (typed σ Γ a (Some bool)) _ e p) as (λ _. Causes σ Γ (E.unary s Not o a) e) [
         | inl q ↦ inr (typed_stops σ Γ a (Some bool) e q)
         | inr x ↦ inl (fit_stops t s (tree.denied bool s x.0) e x.2)
+      ]
+  typed_stops σ Γ (E.cast s a w) t e p =
+      elim (stop (cast_parts (is_bare a) (typed σ Γ a) (written_type σ.types w)) _ e p) as (λ _. Causes σ Γ (E.cast s a w) e) [
+        | inl q ↦ elim (cast_parts_stop (is_bare a) (typed σ Γ a) (written_type σ.types w) e q) as (λ _. Causes σ Γ (E.cast s a w) e) [
+          | inl x ↦ inr (typed_stops σ Γ a x.0 e x.1)
+          | inr y ↦ inl (inr y)
+        ]
+        | inr x ↦ inl (inl (widened_stops t s (span_of a) (type_span w) x.0 e x.2))
       ]
   typed_stops σ Γ (E.binary s op o a b) t e p =
       elim (stop (operands (order_of (is_arithmetic op) t (is_bare a) (is_bare b)) (typed σ Γ a) (typed σ Γ b)) _ e p) as (λ _. Causes σ Γ (E.binary s op o a b) e) [

@@ -4,7 +4,7 @@ use Rattle.std.specs.Prelude.{ℕ, ℤ, slice_get, if◌then◌else◌}
 use Rattle.text_core.specs.declared.span.Span.{Span}
 use Rattle.source_kinds.specs.declared.kinds.BinaryOp.{BinaryOp}
 use Rattle.source_kinds.specs.declared.kinds.IntKind.{IntKind}
-use Rattle.source_kinds.specs.Range.{fits}
+use Rattle.source_kinds.specs.Range.{fits, widens}
 use Rattle.logic_term.specs.declared.declaration.AdtDecl.{AdtDecl}
 use Rattle.logic_term.specs.declared.declaration.VariantKind.TheVariants.{Named, Unit as Alone}
 use Rattle.logic_term.specs.declared.kinds.Ctor.TheVariants.{Tuple, Variant}
@@ -15,6 +15,7 @@ use Rattle.source_trees.specs.declared.path.Segment.{Segment}
 use Rattle.source_trees.specs.Expr as E
 use Rattle.source_trees.specs.Expr.{Expr}
 use Rattle.source_trees.specs.ExprView.{span_of}
+use Rattle.source_trees.specs.TypeTreeView.{span_of as type_span}
 use Rattle.type_check.specs.declared.assertion.Assertion.{Assertion}
 use Rattle.type_check.specs.declared.operands.Operands.{Operands}
 use Rattle.type_check.specs.declared.scope.Found.{Found}
@@ -27,12 +28,12 @@ use Rattle.type_check.specs.TypedExpr.{TypedExpr, TypedStmts, TypedExprs}
 use Rattle.type_check.specs.TypedExpr as tree
 use Rattle.type_check.specs.TypedExprView.{ty_of, stmts_of}
 use Rattle.type_check.specs.Types.{same_ty, is_signed_ty, is_built}
-use Rattle.type_check.specs.Typing.{fit, literal_kind, literal_of, literal, negated, is_bare, order_of, operands, operation, operated, is_mutable, may_write, assigned, is_updated, updated}
+use Rattle.type_check.specs.Typing.{fit, literal_kind, literal_of, literal, negated, is_bare, order_of, operands, operation, operated, cast_parts, cast_from, widened, is_mutable, may_write, assigned, is_updated, updated}
 use Rattle.type_check.specs.Typing.{local_of, made_alone, named_by, named, Called, of_function, of_maker, callee_of, params_of, call_of, called, asked, block_ty, without_last, closed, given, choice_ty, cause_of, nothing, returned, endless, invariant_of, parts_of, tupled, is_boxed, part_number, part_if, field_of, part_by, parted, selected, no_field_left, literal_made, typed, typed_stmts, typed_args, typed_fields}
 use Rattle.type_check.specs.Causes.{root_name}
 use Rattle.type_check.specs.Constructors.{maker_of}
 use Rattle.type_check.specs.WellTyped.{unit, is_arithmetic, operation_ty, tys_of_exprs}
-use Rattle.type_check.specs.Written.{as_name, name_alone}
+use Rattle.type_check.specs.Written.{as_name, name_alone, written_type}
 use Rattle.type_check.proofs.Bound.{bound, held, yes, same_ok}
 use Rattle.type_check.proofs.Fits.{fit_same, no_part, written_fits}
 
@@ -82,6 +83,11 @@ operation_named : (Γ : List Variable) (u t : Option Ty) (s o r : Span) (op : Bi
 operation_named Γ None t s o r op p e h = absurd (cc)
 operation_named Γ (Some u) t s o r op p e h = fit_named Γ None t s (tree.binary u o op p.left p.right) e tt h
 
+cast_at : (Γ : List Variable) (u v : Ty) (t : Option Ty) (s o r : Span) (a e : TypedExpr) → cast_from u v t s o r a ≡ Ok e → IsNamed Γ None e
+cast_at Γ (int j) (int k) t s o r a e p = fit_named Γ None t s (tree.cast (int k) s a) e tt (held (widens j k) (fit t s (tree.cast (int k) s a)) (mismatch s) e p).1
+cast_at Γ (int j) _ t s o r a e p = absurd (cc)
+cast_at Γ _ v t s o r a e p = absurd (cc)
+
 endless_at : (Γ : List Variable) (k : Bool) (t : Option Ty) (s : Span) (is : List Assertion) (b r : TypedExpr) → (if k then fit t s (tree.until_break unit s is b) else yes (tree.endless (asked t) s is b)) ≡ Ok r → IsNamed Γ None r
 endless_at Γ true t s is b r p = fit_named Γ None t s (tree.until_break unit s is b) r tt p
 endless_at Γ false t s is b r p = subst (IsNamed Γ None) (same_ok (tree.endless (asked t) s is b) r p) tt
@@ -96,7 +102,7 @@ part_named ds Γ x t s o a (Some p) r h q = fit_named Γ x t s (tree.part p.1 s 
 
 -- what an expression gives is a variable, or a part of one, only where a name is at its root
 pub typed_named : (σ : Setting) (Γ : List Variable) (e : Expr) (t : Option Ty) (r : TypedExpr) → typed σ Γ e t ≡ Ok r → IsNamed Γ (root_name e) r
-unfolding as_name literal negated operated assigned updated called closed tupled parted selected literal_made
+unfolding as_name literal negated operated widened assigned updated called closed tupled parted selected literal_made
 typed_named σ Γ (E.integer s z k) t r p = literal_at Γ t s z (literal_kind k t) r p
 typed_named σ Γ (E.truth s b) t r p = fit_named Γ None t s (tree.truth bool s b) r tt p
 typed_named σ Γ (E.path s w) t r p = path_named σ.types Γ t s w.node r p
@@ -106,6 +112,9 @@ typed_named σ Γ (E.unary s Neg o e) t r p =
 typed_named σ Γ (E.unary s Not o e) t r p =
     let a = bound (typed σ Γ e (Some bool)) _ r p in
     fit_named Γ None t s (tree.denied bool s a.0) r tt a.2
+typed_named σ Γ (E.cast s e w) t r p =
+    let q = bound (cast_parts (is_bare e) (typed σ Γ e) (written_type σ.types w)) _ r p in
+    cast_at Γ (ty_of q.0.0) q.0.1 t s (span_of e) (type_span w) q.0.0 r q.2
 typed_named σ Γ (E.binary s op o a b) t r p =
     let q = bound (operands (order_of (is_arithmetic op) t (is_bare a) (is_bare b)) (typed σ Γ a) (typed σ Γ b)) _ r p in
     operation_named Γ (operation_ty op (ty_of q.0.left)) t s o (span_of a) op q.0 r q.2

@@ -4,7 +4,7 @@ use Rattle.text_core.specs.declared.span.Span.{Span}
 use Rattle.logic_term.specs.Ty.{Ty, int, bool, tuple, no_tys}
 use Rattle.type_check.specs.declared.program.TypedFunction.{TypedFunction}
 use Rattle.type_check.specs.Plain.{IsScalar, AllScalar, IsPlain, StatementsArePlain, ArePlain, FunctionIsPlain, EachIsPlain}
-use Rattle.type_check.specs.TypedExpr.{TypedExpr, TypedStmts, TypedExprs, integer, truth, variable, negative, denied, binary, lazy, assign, update, call, make, part, block, branch, choice, repeat, panics, returned, endless, until_break, break_off, go_on, done, last, leaving, bind, run, none, more}
+use Rattle.type_check.specs.TypedExpr.{TypedExpr, TypedStmts, TypedExprs, integer, truth, variable, negative, denied, cast, binary, lazy, assign, update, call, make, part, block, branch, choice, repeat, panics, returned, endless, until_break, break_off, go_on, done, last, leaving, bind, run, none, more}
 use Rattle.type_check.specs.Unrun.{are_scalar, earlier, is_scalar, unless, unrun_among, unrun_function, unrun_in, unrun_in_statements, unrun_of}
 
 -- ---- types
@@ -75,6 +75,7 @@ mutual
   plain_expr (variable t s x) p = scalar_of t s p
   plain_expr (negative t s e) p = let n = neither (unrun_in e) (unless (is_scalar t) s) p in (scalar_of t s n.1, plain_expr e n.0)
   plain_expr (denied t s e) p = let n = neither (unrun_in e) (unless (is_scalar t) s) p in (scalar_of t s n.1, plain_expr e n.0)
+  plain_expr (cast t s e) p = let n = neither (unrun_in e) (unless (is_scalar t) s) p in (scalar_of t s n.1, plain_expr e n.0)
   plain_expr (binary t s op a b) p = let n = two t s (unrun_in a) (unrun_in b) p in (n.0, plain_expr a n.1, plain_expr b n.2)
   plain_expr (lazy t s op a b) p = let n = two t s (unrun_in a) (unrun_in b) p in (n.0, plain_expr a n.1, plain_expr b n.2)
   plain_expr (assign t s a b) p = let n = two t s (unrun_in a) (unrun_in b) p in (n.0, plain_expr a n.1, plain_expr b n.2)
@@ -114,6 +115,7 @@ mutual
   expr_runs (variable t s x) h = runs_of t s h
   expr_runs (negative t s e) h = no_two (unrun_in e) (unless (is_scalar t) s) (expr_runs e h.1) (runs_of t s h.0)
   expr_runs (denied t s e) h = no_two (unrun_in e) (unless (is_scalar t) s) (expr_runs e h.1) (runs_of t s h.0)
+  expr_runs (cast t s e) h = no_two (unrun_in e) (unless (is_scalar t) s) (expr_runs e h.1) (runs_of t s h.0)
   expr_runs (binary t s op a b) h = no_three t s (unrun_in a) (unrun_in b) h.0 (expr_runs a h.1) (expr_runs b h.2)
   expr_runs (lazy t s op a b) h = no_three t s (unrun_in a) (unrun_in b) h.0 (expr_runs a h.1) (expr_runs b h.2)
   expr_runs (assign t s a b) h = no_three t s (unrun_in a) (unrun_in b) h.0 (expr_runs a h.1) (expr_runs b h.2)

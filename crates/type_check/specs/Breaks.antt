@@ -1,6 +1,6 @@
 -- Whether a `break` leaves the loop around an expression (Rust Reference, "break expressions").
 use Rattle.std.specs.Prelude.{Bool, true, false, ◌||◌}
-use Rattle.type_check.specs.TypedExpr.{TypedExpr, TypedStmts, TypedExprs, negative, denied, binary, lazy, assign, update, call, make, part, block, branch, choice, returned, break_off, done, last, leaving, bind, run, none, more}
+use Rattle.type_check.specs.TypedExpr.{TypedExpr, TypedStmts, TypedExprs, negative, denied, cast, binary, lazy, assign, update, call, make, part, block, branch, choice, returned, break_off, done, last, leaving, bind, run, none, more}
 
 -- a `break` stands in the expression, and in no loop of its own; a condition of a `while` has none
 abbrev mutual
@@ -8,6 +8,7 @@ abbrev mutual
   breaks (break_off t s) = true
   breaks (negative t s e) = breaks e
   breaks (denied t s e) = breaks e
+  breaks (cast t s e) = breaks e
   breaks (binary t s op a b) = breaks a || breaks b
   breaks (lazy t s op a b) = breaks a || breaks b
   breaks (assign t s a e) = breaks a || breaks e

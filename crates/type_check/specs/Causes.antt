@@ -86,6 +86,10 @@ written_in _ = None
 abbrev pub IsNoType : Setting → StmtKind → SourceError → Type 0
 IsNoType σ k e = (w : TypeTree) × (written_in k ≡ Some w) × (written_type σ.types w ≡ Err e)
 
+-- what is cast to is refused
+abbrev pub IsNoTarget : Setting → TypeTree → SourceError → Type 0
+IsNoTarget σ w e = written_type σ.types w ≡ Err e
+
 -- the refusal has its cause at the expression or at a part of it, in the scope of that part
 abbrev mutual
   pub Causes : Setting → List Variable → Expr → SourceError → Type 0
@@ -94,6 +98,7 @@ abbrev mutual
   Causes σ Γ (E.path s p) e = IsMismatch e ⊎ IsNoValue σ Γ s p.node e
   Causes σ Γ (E.unary s Neg o a) e = IsMismatch e ⊎ Causes σ Γ a e
   Causes σ Γ (E.unary s Not o a) e = IsMismatch e ⊎ Causes σ Γ a e
+  Causes σ Γ (E.cast s a w) e = (IsMismatch e ⊎ IsNoTarget σ w e) ⊎ Causes σ Γ a e
   Causes σ Γ (E.binary s op o a b) e = IsMismatch e ⊎ (Causes σ Γ a e ⊎ Causes σ Γ b e)
   Causes σ Γ (E.lazy s op a b) e = IsMismatch e ⊎ (Causes σ Γ a e ⊎ Causes σ Γ b e)
   Causes σ Γ (E.assign s l a) e = (IsMismatch e ⊎ IsNotWritten Γ l e) ⊎ (Causes σ Γ l e ⊎ Causes σ Γ a e)

@@ -4,7 +4,7 @@ use Rattle.std.specs.Prelude.{List, [], ◌∷◌}
 use Rattle.logic_term.specs.Ty.{Ty, int, bool, tuple, no_tys}
 use Rattle.type_check.specs.declared.program.TypedFunction.{TypedFunction}
 use Rattle.type_check.specs.declared.program.TypedProgram.{TypedProgram}
-use Rattle.type_check.specs.TypedExpr.{TypedExpr, TypedStmts, TypedExprs, integer, truth, variable, negative, denied, binary, lazy, assign, update, call, make, part, block, branch, choice, repeat, panics, returned, endless, until_break, break_off, go_on, done, last, leaving, bind, run, none, more}
+use Rattle.type_check.specs.TypedExpr.{TypedExpr, TypedStmts, TypedExprs, integer, truth, variable, negative, denied, cast, binary, lazy, assign, update, call, make, part, block, branch, choice, repeat, panics, returned, endless, until_break, break_off, go_on, done, last, leaving, bind, run, none, more}
 
 -- the machine integers, the truth values and unit
 abbrev pub IsScalar : Ty → Type 0
@@ -25,6 +25,7 @@ abbrev mutual
   IsPlain (variable t s x) = IsScalar t
   IsPlain (negative t s e) = IsScalar t × IsPlain e
   IsPlain (denied t s e) = IsScalar t × IsPlain e
+  IsPlain (cast t s e) = IsScalar t × IsPlain e
   IsPlain (binary t s op a b) = IsScalar t × IsPlain a × IsPlain b
   IsPlain (lazy t s op a b) = IsScalar t × IsPlain a × IsPlain b
   IsPlain (assign t s a e) = IsScalar t × IsPlain a × IsPlain e

@@ -1,7 +1,7 @@
 -- Typing by rules: what each form asks of its parts, one after another in source order, and what it comes to itself where they have types
 -- (bidirectional typing, Pierce and Turner 2000). Without an expected type an expression gives one, with one it fits it; a part that is
 -- refused refuses the whole. One equation stands for each form, and no equation looks into a part.
-use Rattle.std.specs.Prelude.{◌≡◌, List, [], Option, Some, None, Result, Ok, Err}
+use Rattle.std.specs.Prelude.{◌≡◌, Bool, true, false, List, [], Option, Some, None, Result, Ok, Err}
 use Rattle.text_core.specs.declared.refusal.SourceError.{SourceError}
 use Rattle.text_core.specs.declared.span.Span.{Span}
 use Rattle.logic_term.specs.declared.declaration.FieldDecl.{FieldDecl}
@@ -11,6 +11,8 @@ use Rattle.source_trees.specs.declared.operator.UnaryOp.TheVariants.{Neg, Not}
 use Rattle.source_trees.specs.Expr as E
 use Rattle.source_trees.specs.Expr.{Expr}
 use Rattle.source_trees.specs.ExprView.{span_of}
+use Rattle.source_trees.specs.TypeTree.{TypeTree}
+use Rattle.source_trees.specs.TypeTreeView.{span_of as type_span}
 use Rattle.type_check.specs.declared.operands.Operands.{Operands}
 use Rattle.type_check.specs.declared.operands.Order.{Order}
 use Rattle.type_check.specs.declared.operands.Order.TheVariants as order
@@ -21,9 +23,9 @@ use Rattle.type_check.specs.Setting.{Setting, looping, outside}
 use Rattle.type_check.specs.TypedExpr.{TypedExpr, TypedExprs}
 use Rattle.type_check.specs.TypedExpr as tree
 use Rattle.type_check.specs.TypedExprView.{ty_of, stmts_of}
-use Rattle.type_check.specs.Typing.{Typed, fit, asked, literal, named, negated, is_bare, order_of, operands_of, operated, assigned, updated, callee_of, first_of, rest_of, params_of, called, parts_of, tupled, parted, selected, next_field, fields_behind, no_field_left, literal_made, Opened, opened, declared, behind, typed_stmt, without_last, closed, given, chosen, panicked, returned, bare_return, endless, in_a_loop, invariant_of, typed}
+use Rattle.type_check.specs.Typing.{Typed, fit, asked, literal, named, negated, is_bare, order_of, operands_of, operated, widened, assigned, updated, callee_of, first_of, rest_of, params_of, called, parts_of, tupled, parted, selected, next_field, fields_behind, no_field_left, literal_made, Opened, opened, declared, behind, typed_stmt, without_last, closed, given, chosen, panicked, returned, bare_return, endless, in_a_loop, invariant_of, typed}
 use Rattle.type_check.specs.WellTyped.{unit, is_arithmetic}
-use Rattle.type_check.specs.Written.{step_of}
+use Rattle.type_check.specs.Written.{step_of, written_type}
 
 -- what is asked: a part in its setting and scope, at an expected type if there is one, and from its typed tree on what else; or nothing
 -- more
@@ -43,6 +45,11 @@ abbrev pub operands_in : Setting → Order → List Variable → Expr → Expr �
 operands_in σ (order.Against t) Γ a b k = part σ Γ a (Some t) λ x. part σ Γ b (Some t) λ y. k (operands_of x y)
 operands_in σ order.SecondGives Γ a b k = part σ Γ b None λ y. part σ Γ a (Some (ty_of y)) λ x. k (operands_of x y)
 operands_in σ order.FirstGives Γ a b k = part σ Γ a None λ x. part σ Γ b (Some (ty_of x)) λ y. k (operands_of x y)
+
+-- the operand of a cast, which has the written type where it is an integer without one, and the type
+abbrev pub cast_in : Setting → (bare : Bool) → List Variable → Expr → TypeTree → (TypedExpr × Ty → Asks) → Asks
+cast_in σ true Γ e w k = first (written_type σ.types w) λ u. part σ Γ e (Some u) λ a. k (a, u)
+cast_in σ false Γ e w k = part σ Γ e None λ a. first (written_type σ.types w) λ u. k (a, u)
 
 -- ---- lists of parts
 
@@ -69,6 +76,7 @@ rule σ Γ (E.truth s b) t = comes (fit t s (tree.truth bool s b))
 rule σ Γ (E.path s p) t = comes (named σ.types Γ t s p.node)
 rule σ Γ (E.unary s Neg o e) t = part σ Γ e t λ a. comes (negated t s o (span_of e) a)
 rule σ Γ (E.unary s Not o e) t = part σ Γ e (Some bool) λ a. comes (fit t s (tree.denied bool s a))
+rule σ Γ (E.cast s e w) t = cast_in σ (is_bare e) Γ e w λ p. comes (widened t s (span_of e) (type_span w) p)
 rule σ Γ (E.binary s op o a b) t = operands_in σ (order_of (is_arithmetic op) t (is_bare a) (is_bare b)) Γ a b λ p. comes (operated t s o (span_of a) op p)
 rule σ Γ (E.lazy s op a b) t = part σ Γ a (Some bool) λ x. part σ Γ b (Some bool) λ y. comes (fit t s (tree.lazy bool s op x y))
 rule σ Γ (E.assign s l e) t = part σ Γ l None λ a. part σ Γ e (Some (ty_of a)) λ b. comes (assigned Γ t s (span_of l) a b)

@@ -17,6 +17,8 @@ mutual
     variable : Ty → Span → ℕ → TypedExpr
     negative : Ty → Span → TypedExpr → TypedExpr
     denied : Ty → Span → TypedExpr → TypedExpr
+    -- to its type
+    cast : Ty → Span → TypedExpr → TypedExpr
     binary : Ty → Span → BinaryOp → TypedExpr → TypedExpr → TypedExpr
     lazy : Ty → Span → LazyOp → TypedExpr → TypedExpr → TypedExpr
     -- what is assigned to, and the value

@@ -11,7 +11,7 @@ use Rattle.logic_term.specs.contracts.kinds.Ctor as ctor
 use Rattle.source_kinds.specs.contracts.kinds.LazyOp as lazy_op
 use Rattle.type_check.specs.contracts.assertion.Assertion as assertion
 use base.Stored.{Gv, gnil, gnum, gcons, num}
-use Rattle.type_check.specs.TypedExpr.{TypedExpr, integer, truth, variable, negative, denied, binary, lazy, assign, update, call, make, part, block, branch, choice, repeat, panics, returned, endless, until_break, break_off, go_on, TypedStmts, done, last, leaving, bind, run, TypedExprs, none, more}
+use Rattle.type_check.specs.TypedExpr.{TypedExpr, integer, truth, variable, negative, denied, cast, binary, lazy, assign, update, call, make, part, block, branch, choice, repeat, panics, returned, endless, until_break, break_off, go_on, TypedStmts, done, last, leaving, bind, run, TypedExprs, none, more}
 
 abbrev pub head : Gv → Gv
 head gnil = gnil
@@ -33,6 +33,7 @@ abbrev mutual
   typed_code (variable a0 a1 a2) = gcons (gnum 2) (gcons (coded_ty.code a0) (gcons (span.the_row.coded.code a1) (coded_ℕ.code a2)))
   typed_code (negative a0 a1 a2) = gcons (gnum 3) (gcons (coded_ty.code a0) (gcons (span.the_row.coded.code a1) (typed_code a2)))
   typed_code (denied a0 a1 a2) = gcons (gnum 4) (gcons (coded_ty.code a0) (gcons (span.the_row.coded.code a1) (typed_code a2)))
+  typed_code (cast a0 a1 a2) = gcons (gnum 23) (gcons (coded_ty.code a0) (gcons (span.the_row.coded.code a1) (typed_code a2)))
   typed_code (binary a0 a1 a2 a3 a4) = gcons (gnum 5) (gcons (coded_ty.code a0) (gcons (span.the_row.coded.code a1) (gcons (binary_op.the_row.coded.code a2) (gcons (typed_code a3) (typed_code a4)))))
   typed_code (lazy a0 a1 a2 a3 a4) = gcons (gnum 6) (gcons (coded_ty.code a0) (gcons (span.the_row.coded.code a1) (gcons (lazy_op.the_row.coded.code a2) (gcons (typed_code a3) (typed_code a4)))))
   typed_code (assign a0 a1 a2 a3) = gcons (gnum 7) (gcons (coded_ty.code a0) (gcons (span.the_row.coded.code a1) (gcons (typed_code a2) (typed_code a3))))
@@ -70,6 +71,7 @@ mutual
   typed_injective (variable a0 a1 a2) (variable b0 b1 b2) p = λ i. variable (coded_ty.inj a0 b0 (ap (λ g. head (tail g)) p) i) (span.the_row.coded.inj a1 b1 (ap (λ g. head (tail (tail g))) p) i) (coded_ℕ.inj a2 b2 (ap (λ g. tail (tail (tail g))) p) i)
   typed_injective (negative a0 a1 a2) (negative b0 b1 b2) p = λ i. negative (coded_ty.inj a0 b0 (ap (λ g. head (tail g)) p) i) (span.the_row.coded.inj a1 b1 (ap (λ g. head (tail (tail g))) p) i) (typed_injective a2 b2 (ap (λ g. tail (tail (tail g))) p) i)
   typed_injective (denied a0 a1 a2) (denied b0 b1 b2) p = λ i. denied (coded_ty.inj a0 b0 (ap (λ g. head (tail g)) p) i) (span.the_row.coded.inj a1 b1 (ap (λ g. head (tail (tail g))) p) i) (typed_injective a2 b2 (ap (λ g. tail (tail (tail g))) p) i)
+  typed_injective (cast a0 a1 a2) (cast b0 b1 b2) p = λ i. cast (coded_ty.inj a0 b0 (ap (λ g. head (tail g)) p) i) (span.the_row.coded.inj a1 b1 (ap (λ g. head (tail (tail g))) p) i) (typed_injective a2 b2 (ap (λ g. tail (tail (tail g))) p) i)
   typed_injective (binary a0 a1 a2 a3 a4) (binary b0 b1 b2 b3 b4) p =
       λ i. binary (coded_ty.inj a0 b0 (ap (λ g. head (tail g)) p) i) (span.the_row.coded.inj a1 b1 (ap (λ g. head (tail (tail g))) p) i) (binary_op.the_row.coded.inj a2 b2 (ap (λ g. head (tail (tail (tail g)))) p) i)
       (typed_injective a3 b3 (ap (λ g. head (tail (tail (tail (tail g))))) p) i) (typed_injective a4 b4 (ap (λ g. tail (tail (tail (tail (tail g))))) p) i)

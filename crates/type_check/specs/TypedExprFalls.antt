@@ -37,6 +37,7 @@ falls t s (node.Truth a0) = omega arith
 falls t s (node.Variable a0) = omega arith
 falls t s (node.Neg a0) = omega arith
 falls t s (node.Not a0) = omega arith
+falls t s (node.Cast a0) = omega arith
 falls t s (node.Binary a0 a1 a2) = omega arith
 falls t s (node.Lazy a0 a1 a2) = omega arith
 falls t s (node.Assign a0 a1) = omega arith

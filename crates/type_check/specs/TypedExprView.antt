@@ -2,7 +2,7 @@
 use Rattle.std.specs.Prelude.{ℕ, suc, max, Bool, true, false, List, [], ◌∷◌}
 use Rattle.text_core.specs.declared.span.Span.{Span}
 use Rattle.logic_term.specs.Ty.{Ty}
-use Rattle.type_check.specs.TypedExpr.{TypedExpr, integer, truth, variable, negative, denied, binary, lazy, assign, update, call, make, part, block, branch, choice, repeat, panics, returned, endless, until_break, break_off, go_on, TypedStmts, done, last, leaving, bind, run, TypedExprs, none, more}
+use Rattle.type_check.specs.TypedExpr.{TypedExpr, integer, truth, variable, negative, denied, cast, binary, lazy, assign, update, call, make, part, block, branch, choice, repeat, panics, returned, endless, until_break, break_off, go_on, TypedStmts, done, last, leaving, bind, run, TypedExprs, none, more}
 use Rattle.type_check.specs.declared.typed.TypedStmt.{TypedStmt}
 use Rattle.type_check.specs.declared.typed.TypedNode.{TypedNode}
 use Rattle.type_check.specs.declared.typed.TypedNode.TheVariants as node
@@ -26,6 +26,7 @@ typed_of t s (node.Truth a0) = truth t s a0
 typed_of t s (node.Variable a0) = variable t s a0
 typed_of t s (node.Neg a0) = negative t s a0
 typed_of t s (node.Not a0) = denied t s a0
+typed_of t s (node.Cast a0) = cast t s a0
 typed_of t s (node.Binary a0 a1 a2) = binary t s a0 a1 a2
 typed_of t s (node.Lazy a0 a1 a2) = lazy t s a0 a1 a2
 typed_of t s (node.Assign a0 a1) = assign t s a0 a1
@@ -53,6 +54,7 @@ abbrev mutual
   typed_size (variable a0 a1 a2) = 1
   typed_size (negative a0 a1 a2) = suc (typed_size a2)
   typed_size (denied a0 a1 a2) = suc (typed_size a2)
+  typed_size (cast a0 a1 a2) = suc (typed_size a2)
   typed_size (binary a0 a1 a2 a3 a4) = suc (max (typed_size a3) (typed_size a4))
   typed_size (lazy a0 a1 a2 a3 a4) = suc (max (typed_size a3) (typed_size a4))
   typed_size (assign a0 a1 a2 a3) = suc (max (typed_size a2) (typed_size a3))
@@ -88,6 +90,7 @@ ty_of (truth t s a0) = t
 ty_of (variable t s a0) = t
 ty_of (negative t s a0) = t
 ty_of (denied t s a0) = t
+ty_of (cast t s a0) = t
 ty_of (binary t s a0 a1 a2) = t
 ty_of (lazy t s a0 a1 a2) = t
 ty_of (assign t s a0 a1) = t
@@ -112,6 +115,7 @@ span_of (truth t s a0) = s
 span_of (variable t s a0) = s
 span_of (negative t s a0) = s
 span_of (denied t s a0) = s
+span_of (cast t s a0) = s
 span_of (binary t s a0 a1 a2) = s
 span_of (lazy t s a0 a1 a2) = s
 span_of (assign t s a0 a1) = s

@@ -1,5 +1,5 @@
 -- Which variable each name means and which type each expression has, in the form of bidirectional typing (Pierce and Turner
--- 2000): without an expected type an expression gives one, with one it fits it (Rust Reference, "Operator expressions",
+-- 2000): without an expected type an expression gives one, with one it fits it (Rust Reference, "Operator expressions", "Type cast expressions",
 -- "Call expressions", "Tuple expressions", "Tuple indexing expressions", "Field access expressions", "Struct expressions", "Block expressions",
 -- "if expressions", "Predicate loops", "Infinite loops", "break expressions", "continue expressions", "return expressions", "Diverging expressions"). What has no row is not built.
 use Rattle.std.specs.Prelude.{ℕ, zero, suc, ℤ, pos, ◌==◌, ◌++◌, Bool, true, false, List, [], ◌∷◌, length, map, Option, Some, None, Result, Ok, Err, slice_get, if◌then◌else◌}
@@ -11,7 +11,7 @@ use Rattle.text_core.specs.declared.span.Span.{Span}
 use Rattle.source_kinds.specs.declared.kinds.BinaryOp.{BinaryOp}
 use Rattle.source_kinds.specs.declared.kinds.IntKind.{IntKind}
 use Rattle.source_kinds.specs.declared.kinds.IntKind.TheVariants.{I32}
-use Rattle.source_kinds.specs.Range.{fits}
+use Rattle.source_kinds.specs.Range.{fits, widens}
 use Rattle.logic_term.specs.declared.declaration.AdtDecl.{AdtDecl}
 use Rattle.logic_term.specs.declared.declaration.FieldDecl.{FieldDecl}
 use Rattle.logic_term.specs.declared.declaration.VariantKind.TheVariants.{Named, Numbered, Unit as Alone}
@@ -32,6 +32,7 @@ use Rattle.source_trees.specs.declared.path.Segment.{Segment}
 use Rattle.source_trees.specs.Expr as E
 use Rattle.source_trees.specs.Expr.{Expr}
 use Rattle.source_trees.specs.ExprView.{span_of}
+use Rattle.source_trees.specs.TypeTreeView.{span_of as type_span}
 use Rattle.type_check.specs.declared.assertion.Assertion.{Assertion}
 use Rattle.type_check.specs.declared.heading.Callee.{Callee}
 use Rattle.type_check.specs.declared.operands.Operands.{Operands}
@@ -56,7 +57,7 @@ use Rattle.type_check.specs.TypedExprView.{ty_of, stmt_of, stmts_of}
 use Rattle.type_check.specs.DeclaredTypes.{numbered}
 use Rattle.type_check.specs.Types.{same_ty, is_signed_ty, is_built, are_built}
 use Rattle.type_check.specs.WellTyped.{unit, is_arithmetic, operation_ty, nth_part, struct_fields, field_at, tys_of_exprs}
-use Rattle.type_check.specs.Written.{name_alone, step_of}
+use Rattle.type_check.specs.Written.{name_alone, step_of, written_type}
 
 abbrev pub Typed : Type 0
 Typed = Result TypedExpr SourceError
@@ -130,6 +131,29 @@ operation (Some u) t s o r op p = fit t s (tree.binary u o op p.left p.right)
 -- the spans are the expression's, the operator's and the first operand's
 unfoldable pub operated : Option Ty → Span → Span → Span → BinaryOp → Operands → Typed
 operated t s o r op p = operation (operation_ty op (ty_of p.left)) t s o r op p
+
+-- ---- casts
+
+-- the operand and the type that it is cast to: an integer without a type at its end has that type, all else is typed before it is read
+abbrev pub cast_parts : (bare : Bool) → (Option Ty → Typed) → Result Ty SourceError → Result (TypedExpr × Ty) SourceError
+cast_parts true operand target = do
+  u ← target
+  a ← operand (Some u)
+  Ok (a, u)
+cast_parts false operand target = do
+  a ← operand None
+  u ← target
+  Ok (a, u)
+
+-- from the first type to the second, where each integer of the one is one of the other
+abbrev pub cast_from : (first second : Ty) → Option Ty → (whole operand target : Span) → TypedExpr → Typed
+cast_from (int j) (int k) t s o r a = if widens j k then fit t s (tree.cast (int k) s a) else Err (mismatch s)
+cast_from (int j) _ t s o r a = Err (mismatch r)
+cast_from _ u t s o r a = Err (mismatch o)
+
+-- the spans are the expression's, the operand's and the written type's
+unfoldable pub widened : Option Ty → (whole operand target : Span) → TypedExpr × Ty → Typed
+widened t s o r p = cast_from (ty_of p.0) p.1 t s o r p.0
 
 -- ---- assignments
 
@@ -452,6 +476,9 @@ abbrev mutual
   typed σ Γ (E.unary s Not o e) t = do
     a ← typed σ Γ e (Some bool)
     fit t s (tree.denied bool s a)
+  typed σ Γ (E.cast s e w) t = do
+    p ← cast_parts (is_bare e) (typed σ Γ e) (written_type σ.types w)
+    widened t s (span_of e) (type_span w) p
   typed σ Γ (E.binary s op o a b) t = do
     p ← operands (order_of (is_arithmetic op) t (is_bare a) (is_bare b)) (typed σ Γ a) (typed σ Γ b)
     operated t s o (span_of a) op p

@@ -5,7 +5,7 @@ use Rattle.text_core.specs.declared.span.Span.{Span}
 use Rattle.logic_term.specs.Ty.{Ty, int, bool, tuple, no_tys}
 use Rattle.type_check.specs.declared.program.TypedFunction.{TypedFunction}
 use Rattle.type_check.specs.declared.program.TypedProgram.{TypedProgram}
-use Rattle.type_check.specs.TypedExpr.{TypedExpr, TypedStmts, TypedExprs, integer, truth, variable, negative, denied, binary, lazy, assign, update, call, make, part, block, branch, choice, repeat, panics, returned, endless, until_break, break_off, go_on, done, last, leaving, bind, run, none, more}
+use Rattle.type_check.specs.TypedExpr.{TypedExpr, TypedStmts, TypedExprs, integer, truth, variable, negative, denied, cast, binary, lazy, assign, update, call, make, part, block, branch, choice, repeat, panics, returned, endless, until_break, break_off, go_on, done, last, leaving, bind, run, none, more}
 use Rattle.type_check.specs.TypedExprView.{ty_of, span_of}
 
 -- the machine integers, the truth values and unit
@@ -45,6 +45,7 @@ abbrev mutual
   unrun_in (variable t s x) = unless (is_scalar t) s
   unrun_in (negative t s e) = earlier (unrun_in e) (unless (is_scalar t) s)
   unrun_in (denied t s e) = earlier (unrun_in e) (unless (is_scalar t) s)
+  unrun_in (cast t s e) = earlier (unrun_in e) (unless (is_scalar t) s)
   unrun_in (binary t s op a b) = earlier (unrun_in a) (earlier (unrun_in b) (unless (is_scalar t) s))
   unrun_in (lazy t s op a b) = earlier (unrun_in a) (earlier (unrun_in b) (unless (is_scalar t) s))
   unrun_in (assign t s a e) = earlier (unrun_in a) (earlier (unrun_in e) (unless (is_scalar t) s))

@@ -8,7 +8,7 @@ use Rattle.source_kinds.specs.declared.kinds.BinaryOp.TheVariants.{Add, Sub, Mul
 use Rattle.source_kinds.specs.declared.kinds.IntKind.{IntKind}
 use Rattle.source_kinds.specs.declared.kinds.IntKind.TheVariants.{I8, I16, I32, I64, Isize}
 use Rattle.logic_term.specs.Free.{free}
-use Rattle.source_kinds.specs.Range.{fits}
+use Rattle.source_kinds.specs.Range.{fits, widens}
 use Rattle.logic_term.specs.declared.kinds.Ctor.{Ctor}
 use Rattle.logic_term.specs.declared.declaration.AdtDecl.{AdtDecl}
 use Rattle.logic_term.specs.declared.declaration.FieldDecl.{FieldDecl}
@@ -26,7 +26,7 @@ use Rattle.type_check.specs.declared.program.Signature.{Signature}
 use Rattle.type_check.specs.declared.program.TypedClause.{TypedClause}
 use Rattle.type_check.specs.declared.program.TypedFunction.{TypedFunction}
 use Rattle.type_check.specs.declared.program.TypedProgram.{TypedProgram}
-use Rattle.type_check.specs.TypedExpr.{TypedExpr, TypedStmts, TypedExprs, integer, truth, variable, negative, denied, binary, lazy, assign, update, call, make, part, block, branch, choice, repeat, panics, returned, endless, until_break, break_off, go_on, done, last, leaving, bind, run, none, more}
+use Rattle.type_check.specs.TypedExpr.{TypedExpr, TypedStmts, TypedExprs, integer, truth, variable, negative, denied, cast, binary, lazy, assign, update, call, make, part, block, branch, choice, repeat, panics, returned, endless, until_break, break_off, go_on, done, last, leaving, bind, run, none, more}
 use Rattle.type_check.specs.Breaks.{breaks}
 use Rattle.type_check.specs.Leaves.{leaves}
 use Rattle.type_check.specs.TypedExprView.{ty_of}
@@ -181,6 +181,7 @@ abbrev mutual
   IsWellTyped σ Γ (variable t s x) = slice_get Γ x ≡ Some t
   IsWellTyped σ Γ (negative t s e) = (k : IntKind) × (is_signed k ≡ true) × (t ≡ int k) × IsOf (int k) e × IsWellTyped σ Γ e
   IsWellTyped σ Γ (denied t s e) = (t ≡ bool) × IsOf bool e × IsWellTyped σ Γ e
+  IsWellTyped σ Γ (cast t s e) = (j : IntKind) × (k : IntKind) × (widens j k ≡ true) × (t ≡ int k) × IsOf (int j) e × IsWellTyped σ Γ e
   IsWellTyped σ Γ (binary t s op a b) = (operation_ty op (ty_of a) ≡ Some t) × IsOf (ty_of a) b × IsWellTyped σ Γ a × IsWellTyped σ Γ b
   IsWellTyped σ Γ (lazy t s op a b) = (t ≡ bool) × IsOf bool a × IsOf bool b × IsWellTyped σ Γ a × IsWellTyped σ Γ b
   IsWellTyped σ Γ (assign t s a e) = (t ≡ unit) × IsOf (ty_of a) e × IsWellTyped σ Γ a × IsWellTyped σ Γ e

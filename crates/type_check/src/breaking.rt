@@ -3,7 +3,7 @@ ghost use Rattle.type_check.specs.Breaks.{breaks, some_breaks, some_statement_br
 ghost use Rattle.type_check.specs.TypedExpr.{done};
 ghost use Rattle.type_check.specs.TypedExprView.{exprs_of, stmts_of};
 
-use crate::logic::operands_of;
+use crate::logic::{cast_operand, operands_of};
 use crate::typed::{TypedExpr, TypedNode, TypedStmt};
 
 /// Whether a `break` in the expression leaves the loop around it. Left operands are gone down by a loop.
@@ -12,12 +12,12 @@ use crate::typed::{TypedExpr, TypedNode, TypedStmt};
 pub(crate) fn breaks(e: &TypedExpr) -> bool
     ensures { result ≡ breaks e.now }
 {
-    let mut bottom = e;
+    let mut bottom = cast_operand(e);
     while let Some((left, right)) = operands_of(bottom) {
         if breaks(right) {
             return true;
         }
-        bottom = left;
+        bottom = cast_operand(left);
     }
     form_breaks(bottom)
 }
@@ -32,6 +32,7 @@ fn form_breaks(e: &TypedExpr) -> bool
         TypedNode::Break => true,
         TypedNode::Neg(a) => breaks(a),
         TypedNode::Not(a) => breaks(a),
+        TypedNode::Cast(a) => breaks(a),
         TypedNode::Binary(_, a, b) => breaks(a) || breaks(b),
         TypedNode::Lazy(_, a, b) => breaks(a) || breaks(b),
         TypedNode::Assign(a, b) => breaks(a) || breaks(b),

@@ -4,7 +4,7 @@ ghost use Rattle.std.specs.Prelude.{◌≡◌, ◌≤◌, List, Some, IfOk, Matc
 ghost use Rattle.source_trees.specs.ExprView.{expr_size, span_of};
 ghost use Rattle.type_check.specs.declared.scope.Variable.{Variable};
 ghost use Rattle.type_check.specs.Answers.{Answers};
-ghost use Rattle.type_check.specs.Chains.{GoesLeft, climbed, ended, first_ty, frames_size, left_of, right_of, second_ty, written};
+ghost use Rattle.type_check.specs.Chains.{GoesFirst, GoesLeft, climbed, ended, first_ty, frames_size, left_of, operand_of, operand_ty, right_of, second_ty, written, written_above};
 ghost use Rattle.type_check.specs.Setting.{Setting};
 ghost use Rattle.type_check.specs.Typing.{typed};
 
@@ -15,7 +15,7 @@ use crate::types::is_arithmetic;
 use crate::typing::{given_ty, is_bare, lazy, operated, span_of, spans_at, updated};
 use logic_term::Ty;
 use source_kinds::{BinaryOp, LazyOp};
-use source_trees::{Expr, ExprNode};
+use source_trees::{Expr, ExprNode, TypeTree};
 use std::alloc::Global;
 use text_core::{NoMemory, PassError, Span};
 
@@ -29,17 +29,25 @@ pub(crate) enum Operation<'a> {
     Update(BinaryOp, Span, &'a Expr, &'a Expr),
 }
 
-/// An operation whose left operand is being typed.
+/// What stands above an operand that is typed first.
+#[derive(Clone, Copy)]
+pub(crate) enum Above<'a> {
+    Operation(Operation<'a>),
+    /// A cast of the operand to the type.
+    Cast(&'a Expr, &'a TypeTree),
+}
+
+/// An operation or a cast whose left operand is being typed.
 #[derive(Drop)]
 pub(crate) struct Frame<'a> {
     /// From its first token to its last.
     pub(crate) whole: Span,
-    pub(crate) operation: Operation<'a>,
+    pub(crate) above: Above<'a>,
     /// The type that is expected of it, if one is.
     pub(crate) expected: Option<Ty>,
 }
 
-/// The operations around an expression, the outermost first, with the expression and the type that is expected of it.
+/// The operations and casts around an expression, the outermost first, with the expression and the type that is expected of it.
 #[derive(Drop)]
 pub(crate) struct Descent<'a> {
     pub(crate) frames: Vec<Frame<'a>>,
@@ -60,6 +68,20 @@ fn operation_of(e: &Expr) -> Option<Operation<'_>>
     }
 }
 
+/// The operation or the cast that the expression is, if its operand is typed first.
+fn above_of(e: &Expr) -> Option<Above<'_>>
+    ensures written { MatchOption result (Unit {0}) (λ a. written_above (span_of e.now) a ≡ e.now) }
+    ensures first { MatchOption result (Unit {0}) GoesFirst }
+{
+    match &*e.node {
+        ExprNode::Cast(a, target) if !is_bare(a) => Some(Above::Cast(a, target)),
+        _ => match operation_of(e) {
+            Some(operation) => Some(Above::Operation(operation)),
+            None => None,
+        },
+    }
+}
+
 fn left_of<'a>(operation: &Operation<'a>) -> &'a Expr
     ensures { result.now ≡ left_of operation.now }
 {
@@ -67,6 +89,15 @@ fn left_of<'a>(operation: &Operation<'a>) -> &'a Expr
         Operation::Binary(_, _, a, _) => a,
         Operation::Lazy(_, a, _) => a,
         Operation::Update(_, _, a, _) => a,
+    }
+}
+
+fn operand_of<'a>(above: &Above<'a>) -> &'a Expr
+    ensures { result.now ≡ operand_of above.now }
+{
+    match above {
+        Above::Operation(operation) => left_of(operation),
+        Above::Cast(a, _) => a,
     }
 }
 
@@ -104,15 +135,30 @@ fn first_ty(
     }
 }
 
+/// The same of an operation or a cast.
+fn operand_ty(
+    alloc: Global,
+    above: &Above<'_>,
+    expected: &Option<Ty>,
+) -> Result<Option<Ty>, NoMemory>
+    ensures { IfOk result (λ t. t ≡ operand_ty above.now expected.now) }
+{
+    match above {
+        Above::Operation(operation) => first_ty(alloc, operation, expected),
+        Above::Cast(_, _) => Ok(None),
+    }
+}
+
 /// The type that is expected of the right operand.
 pub(crate) fn second_ty(
     alloc: Global,
-    frame: &Frame<'_>,
+    operation: &Operation<'_>,
+    expected: &Option<Ty>,
     left: &TypedExpr,
 ) -> Result<Option<Ty>, NoMemory>
-    ensures { IfOk result (λ t. t ≡ Some (second_ty frame.now.operation frame.now.expected left.now)) }
+    ensures { IfOk result (λ t. t ≡ Some (second_ty operation.now expected.now left.now)) }
 {
-    match first_ty(alloc, &frame.operation, &frame.expected)? {
+    match first_ty(alloc, operation, expected)? {
         Some(ty) => Ok(Some(ty)),
         None => given_ty(alloc, left),
     }
@@ -131,13 +177,13 @@ pub(crate) fn descend<'a>(
     let mut frames = Vec::new(alloc);
     let mut bottom = e;
     let mut wanted = copied(alloc, expected)?;
-    while let Some(operation) = operation_of(bottom) {
-        let first = first_ty(alloc, &operation, &wanted)?;
+    while let Some(above) = above_of(bottom) {
+        let first = operand_ty(alloc, &above, &wanted)?;
         let whole = span_of(bottom);
-        bottom = left_of(&operation);
+        bottom = operand_of(&above);
         frames.push(Frame {
             whole,
-            operation,
+            above,
             expected: wanted,
         })?;
         wanted = first;
@@ -153,26 +199,23 @@ pub(crate) fn descend<'a>(
 pub(crate) fn finish(
     alloc: Global,
     scope: &[Variable],
-    frame: Frame<'_>,
+    expected: &Option<Ty>,
+    whole: Span,
+    operation: Operation<'_>,
     left: TypedExpr,
     right: TypedExpr,
 ) -> Result<TypedExpr, PassError>
-    ensures { Answers result (ended scope.now frame.entry.whole frame.entry.operation frame.entry.expected left right) }
+    ensures { Answers result (ended scope.now whole operation.entry expected.now left right) }
 {
-    let Frame {
-        whole,
-        operation,
-        expected,
-    } = frame;
     match operation {
         Operation::Binary(op, at, a, _) => {
             let spans = spans_at(whole, at, a);
-            operated(alloc, &expected, spans, op, Operands { left, right })
+            operated(alloc, expected, spans, op, Operands { left, right })
         }
-        Operation::Lazy(op, _, _) => lazy(alloc, &expected, whole, op, left, right),
+        Operation::Lazy(op, _, _) => lazy(alloc, expected, whole, op, left, right),
         Operation::Update(op, at, a, _) => {
             let spans = spans_at(whole, at, a);
-            updated(alloc, scope, &expected, spans, op, left, right)
+            updated(alloc, scope, expected, spans, op, left, right)
         }
     }
 }

@@ -2,7 +2,7 @@ ghost use Rattle.std.specs.Prelude.{◌≡◌, OnOk};
 ghost use Rattle.source_trees.specs.Expr as E;
 ghost use Rattle.source_trees.specs.ExprView.{exprs_of as written_exprs, field_exprs_of as written_fields, span_of, stmts_of as written_stmts};
 ghost use Rattle.type_check.specs.Answers.{Answers, AnswersAs};
-ghost use Rattle.type_check.specs.Chains.{behind};
+ghost use Rattle.type_check.specs.Chains.{behind, finished};
 ghost use Rattle.type_check.specs.Literals.{made_by};
 ghost use Rattle.type_check.specs.Setting.{setting_of};
 ghost use Rattle.type_check.specs.TypedExprView.{exprs_of};
@@ -10,7 +10,8 @@ ghost use Rattle.type_check.specs.Typing.{is_bare, opened, operands, order_of, t
 ghost use Rattle.type_check.specs.WellTyped.{is_arithmetic};
 
 use crate::calling::{callee_of, params_of, with_arguments};
-use crate::chain::{Descent, Frame, descend, finish, right_of, second_ty};
+use crate::casting::{cast_spans, cast_to, widened};
+use crate::chain::{Above, Descent, Frame, Operation, descend, finish, right_of, second_ty};
 use crate::elaborate::invariants_of;
 use crate::literals::{literal_made, next_field, no_field_left};
 use crate::making::{Maker, maker_of};
@@ -29,7 +30,7 @@ use crate::typing::{
     lazy, literal, negated, operated, order_of, panicked, param_ty, repeat, returned, span_of,
     spans_at, truth, updated,
 };
-use crate::written::step_of;
+use crate::written::{step_of, written_type};
 use logic_term::{Ty, VariantKind};
 use source_kinds::{BinaryOp, LazyOp};
 use source_trees::{
@@ -63,7 +64,7 @@ pub(crate) fn type_expr(
     Ok(typed)
 }
 
-/// The operation, whose left operand is typed.
+/// The operation or the cast, whose left operand is typed.
 #[cycle(type_expr)]
 fn type_behind(
     alloc: Global,
@@ -75,10 +76,47 @@ fn type_behind(
     ensures answers { Answers result (behind (setting_of setting.now) scope.old.items frame.entry left) }
     ensures kept { OnOk result (scope.new.items ≡ scope.old.items) }
 {
-    let wanted = second_ty(alloc, &frame, &left)?;
-    let right = right_of(&frame.operation);
+    let Frame {
+        whole,
+        above,
+        expected,
+    } = frame;
+    match above {
+        Above::Operation(operation) => type_right(
+            alloc, setting, scope, &expected, whole, operation, left,
+        ),
+        Above::Cast(a, target) => {
+            cast_to(alloc, setting.types, &expected, whole, a, target, left)
+        }
+    }
+}
+
+/// The operation, whose left operand is typed.
+#[cycle(type_expr)]
+fn type_right(
+    alloc: Global,
+    setting: &Setting<'_>,
+    scope: &mut Vec<Variable>,
+    expected: &Option<Ty>,
+    whole: Span,
+    operation: Operation<'_>,
+    left: TypedExpr,
+) -> Result<TypedExpr, PassError>
+    ensures answers { Answers result (finished (setting_of setting.now) scope.old.items whole operation.entry expected.now left) }
+    ensures kept { OnOk result (scope.new.items ≡ scope.old.items) }
+{
+    let wanted = second_ty(alloc, &operation, expected, &left)?;
+    let right = right_of(&operation);
     let right = type_expr(alloc, setting, scope, right, &wanted)?;
-    finish(alloc, scope.as_slice(), frame, left, right)
+    finish(
+        alloc,
+        scope.as_slice(),
+        expected,
+        whole,
+        operation,
+        left,
+        right,
+    )
 }
 
 /// The same as `type_expr`, each operand by a call.
@@ -109,6 +147,7 @@ fn type_form(
         ExprNode::Unary(op, at, a) => type_unary(
             alloc, setting, scope, expected, whole, *op, *at, a,
         ),
+        ExprNode::Cast(a, target) => type_cast(alloc, setting, scope, expected, whole, a, target),
         ExprNode::Binary(op, at, a, b) => type_binary(
             alloc, setting, scope, expected, whole, *op, *at, a, b,
         ),
@@ -185,7 +224,6 @@ fn type_form(
         | ExprNode::While(Some(_), _, _)
         | ExprNode::Closure(_, _, _, _, _)
         | ExprNode::Ghost(_, _)
-        | ExprNode::Cast(_, _)
         | ExprNode::Borrow(_, _)
         | ExprNode::Method(_, _, _, _) => Err(unbuilt(whole)),
     }
@@ -218,6 +256,32 @@ fn type_unary(
         }
         UnaryOp::Deref => Err(unbuilt(whole)),
     }
+}
+
+/// `a as T`: an integer without a type at its end has the type T.
+#[cycle(type_expr)]
+#[tactic(auto, using(crate::proofs::Parts::parts))]
+fn type_cast(
+    alloc: Global,
+    setting: &Setting<'_>,
+    scope: &mut Vec<Variable>,
+    expected: &Option<Ty>,
+    whole: Span,
+    a: &Expr,
+    target: &TypeTree,
+) -> Result<TypedExpr, PassError>
+    ensures answers { Answers result (typed (setting_of setting.now) scope.old.items (E.cast whole a.now target.now) expected.now) }
+    ensures kept { OnOk result (scope.new.items ≡ scope.old.items) }
+{
+    if !is_bare(a) {
+        let operand = type_expr(alloc, setting, scope, a, &None)?;
+        return cast_to(alloc, setting.types, expected, whole, a, target, operand);
+    }
+    let ty = written_type(alloc, setting.types, target)?;
+    let wanted = Some(ty.copy(alloc)?);
+    let operand = type_expr(alloc, setting, scope, a, &wanted)?;
+    let spans = cast_spans(whole, a, target);
+    widened(alloc, expected, spans, operand, &ty)
 }
 
 /// `left + right` and the like.

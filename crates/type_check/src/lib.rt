@@ -4,6 +4,7 @@
 mod assertion;
 mod breaking;
 mod calling;
+mod casting;
 mod chain;
 mod checking;
 mod checks;

@@ -1,4 +1,4 @@
-ghost use Rattle.std.specs.Prelude.{◌≡◌, ◌<◌, ◌||◌, MatchOption};
+ghost use Rattle.std.specs.Prelude.{◌≡◌, ◌≤◌, ◌<◌, ◌||◌, MatchOption};
 ghost use Rattle.type_check.specs.Breaks.{breaks};
 ghost use Rattle.type_check.specs.FirstBad.{bad_of, bad_among, bad_in, bad_in_stmts, bad_in_exprs, bad_clause, bad_in_function, first_bad};
 ghost use Rattle.type_check.specs.Answers.{or_else};
@@ -53,17 +53,30 @@ pub(crate) fn operands_of(e: &TypedExpr) -> Option<(&TypedExpr, &TypedExpr)>
     }
 }
 
+/// What is cast, through all casts; the expression itself where it is none. By a loop, since casts stack as deep as they are long.
+pub(crate) fn cast_operand(e: &TypedExpr) -> &TypedExpr
+    ensures bad { bad_in e.now ≡ bad_in result.now }
+    ensures breaks { breaks e.now ≡ breaks result.now }
+    ensures smaller { typed_size result.now ≤ typed_size e.now }
+{
+    let mut operand = e;
+    while let TypedNode::Cast(inner) = &*operand.node {
+        operand = inner;
+    }
+    operand
+}
+
 /// The first refusal among the invariants in the expression. Left operands are gone down by a loop; what is found further left
 /// stands earlier.
 #[cycle(bad_in)]
 fn bad_in(e: &TypedExpr) -> Option<SourceError>
     ensures { result ≡ bad_in e.now }
 {
-    let mut bottom = e;
+    let mut bottom = cast_operand(e);
     let mut found = None;
     while let Some((left, right)) = operands_of(bottom) {
         found = earlier(bad_in(right), found);
-        bottom = left;
+        bottom = cast_operand(left);
     }
     earlier(bad_in_form(bottom), found)
 }
@@ -80,6 +93,7 @@ fn bad_in_form(e: &TypedExpr) -> Option<SourceError>
         TypedNode::Variable(_) => None,
         TypedNode::Neg(a) => bad_in(a),
         TypedNode::Not(a) => bad_in(a),
+        TypedNode::Cast(a) => bad_in(a),
         TypedNode::Binary(_, a, b) => earlier(bad_in(a), bad_in(b)),
         TypedNode::Lazy(_, a, b) => earlier(bad_in(a), bad_in(b)),
         TypedNode::Assign(a, b) => earlier(bad_in(a), bad_in(b)),

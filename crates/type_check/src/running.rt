@@ -55,17 +55,18 @@ fn own_place(e: &TypedExpr) -> Option<Span>
     if runs(e) { None } else { Some(e.span) }
 }
 
-/// The operands of an operation.
-fn operands_of(e: &TypedExpr) -> Option<(&TypedExpr, &TypedExpr)>
-    ensures parts { MatchOption result (Unit {0}) (λ p. unrun_in e.now ≡ earlier (unrun_in p.0.now) (earlier (unrun_in p.1.now) (own_place e.now))) }
+/// The operands of an operation, or that of a cast.
+fn operands_of(e: &TypedExpr) -> Option<(&TypedExpr, Option<&TypedExpr>)>
+    ensures parts { MatchOption result (Unit {0}) (λ p. MatchOption p.1 (unrun_in e.now ≡ earlier (unrun_in p.0.now) (own_place e.now)) (λ b. unrun_in e.now ≡ earlier (unrun_in p.0.now) (earlier (unrun_in b.now) (own_place e.now)))) }
     ensures left { MatchOption result (Unit {0}) (λ p. typed_size p.0.now < typed_size e.now) }
-    ensures right { MatchOption result (Unit {0}) (λ p. typed_size p.1.now < typed_size e.now) }
+    ensures right { MatchOption result (Unit {0}) (λ p. MatchOption p.1 (Unit {0}) (λ b. typed_size b.now < typed_size e.now)) }
 {
     match &*e.node {
-        TypedNode::Binary(_, a, b) => Some((a, b)),
-        TypedNode::Lazy(_, a, b) => Some((a, b)),
-        TypedNode::Assign(a, b) => Some((a, b)),
-        TypedNode::Update(_, a, b) => Some((a, b)),
+        TypedNode::Cast(a) => Some((a, None)),
+        TypedNode::Binary(_, a, b) => Some((a, Some(b))),
+        TypedNode::Lazy(_, a, b) => Some((a, Some(b))),
+        TypedNode::Assign(a, b) => Some((a, Some(b))),
+        TypedNode::Update(_, a, b) => Some((a, Some(b))),
         _ => None,
     }
 }
@@ -79,7 +80,10 @@ fn unrun_in(e: &TypedExpr) -> Option<Span>
     let mut bottom = e;
     let mut found = None;
     while let Some((left, right)) = operands_of(bottom) {
-        found = earlier(unrun_in(right), earlier(own_place(bottom), found));
+        found = earlier(own_place(bottom), found);
+        if let Some(right) = right {
+            found = earlier(unrun_in(right), found);
+        }
         bottom = left;
     }
     let parts = earlier(unrun_in_parts(bottom), own_place(bottom));
@@ -98,6 +102,7 @@ fn unrun_in_parts(e: &TypedExpr) -> Option<Span>
         TypedNode::Variable(_) => None,
         TypedNode::Neg(a) => unrun_in(a),
         TypedNode::Not(a) => unrun_in(a),
+        TypedNode::Cast(a) => unrun_in(a),
         TypedNode::Binary(_, a, b) => earlier(unrun_in(a), unrun_in(b)),
         TypedNode::Lazy(_, a, b) => earlier(unrun_in(a), unrun_in(b)),
         TypedNode::Assign(a, b) => earlier(unrun_in(a), unrun_in(b)),

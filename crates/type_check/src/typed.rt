@@ -28,6 +28,8 @@ pub enum TypedNode {
     Variable(u32),
     Neg(TypedExpr),
     Not(TypedExpr),
+    /// `e as T`, where T is its type.
+    Cast(TypedExpr),
     Binary(BinaryOp, TypedExpr, TypedExpr),
     Lazy(LazyOp, TypedExpr, TypedExpr),
     /// To the first. Where that is no variable, what is assigned is lost.
@@ -116,6 +118,7 @@ impl TypedExpr {
         match Box::into_inner(node) {
             TypedNode::Neg(left) => Some(left),
             TypedNode::Not(left) => Some(left),
+            TypedNode::Cast(left) => Some(left),
             TypedNode::Binary(_, left, _) => Some(left),
             TypedNode::Lazy(_, left, _) => Some(left),
             TypedNode::Assign(left, _) => Some(left),

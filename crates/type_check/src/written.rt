@@ -32,7 +32,11 @@ pub(crate) fn name_alone(path: &Path) -> Option<Segment>
 
 /// The type that is written in a function, its lifetimes all being one. E20 at it where it is none of those that are built.
 #[tactic(auto, unfolding(crate::specs::Written::written_type), using(crate::proofs::WrittenTypes::refused_meaning))]
-fn written_type(alloc: Global, types: &AdtTable, written: &TypeTree) -> Result<Ty, PassError>
+pub(crate) fn written_type(
+    alloc: Global,
+    types: &AdtTable,
+    written: &TypeTree,
+) -> Result<Ty, PassError>
     ensures { Answers result (written_type types.now written.now) }
 {
     let self_ty = None;

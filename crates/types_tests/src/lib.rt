@@ -1,4 +1,4 @@
-//! Tests of the table of declared types, of which types are `Copy`, of assignments, of what leaves, of `break` and `continue`, of tuples, of structs in functions, and of what does not run yet.
+//! Tests of the table of declared types, of which types are `Copy`, of assignments, of what leaves, of `break` and `continue`, of tuples, of structs in functions, of casts, and of what does not run yet.
 #![tactic(auto)]
 
 #[cfg(test)]
@@ -7,6 +7,8 @@ mod assigning;
 mod breaking;
 #[cfg(test)]
 mod build;
+#[cfg(test)]
+mod casting;
 #[cfg(test)]
 mod closing;
 #[cfg(test)]

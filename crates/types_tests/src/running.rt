@@ -32,7 +32,7 @@ fn is_right(alloc: Global, row: &Row) -> bool {
     }
 }
 
-const FIRST_UNRUN: [Row; 15] = [
+const FIRST_UNRUN: [Row; 18] = [
     (b"fn f() {}", None),
     (b"fn f(x: i32) -> bool { let y = x + 1; y < 2 }", None),
     (b"struct P { x: i32 } fn f() -> i32 { 1 }", None),
@@ -65,6 +65,15 @@ const FIRST_UNRUN: [Row; 15] = [
     (
         b"struct P { x: i32 } fn f() -> i32 { P { x: 1 }.x }",
         Some((36, 46)),
+    ),
+    (b"fn f(x: u8) -> u32 { x as u16 as u32 + 1 }", None),
+    (
+        b"fn f() -> u16 { (1u8, 2).0 as u16 as u16 }",
+        Some((16, 24)),
+    ),
+    (
+        b"fn f(x: u8) -> u16 { x as u16 + (1u8, 2).0 as u16 }",
+        Some((32, 40)),
     ),
 ];
 

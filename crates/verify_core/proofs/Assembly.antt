@@ -1,11 +1,20 @@
 -- A program whose functions fit meets the conditions under which true obligations make functions good.
-use Rattle.std.proofs.Common.{◌≡◌, ◌∙◌, refl, sym, ap, subst, ℕ, zero, suc, ◌==◌, ◌&&◌, ◌⊎◌, inr, Bool, true, false, List, [], ◌∷◌, length, Some, slice_get, true≢false, inl, None}
+use Rattle.std.proofs.Common.{◌≡◌, ◌∙◌, refl, sym, ap, subst, ℕ, zero, suc, ◌==◌, ◌&&◌, ◌⊎◌, inr, pos, Bool, true, false, List, [], ◌∷◌, length, Some, slice_get, true≢false, inl, None}
 use Rattle.std.specs.List.{list_any}
 use Rattle.std.proofs.lemmas.Bool.{eqb-true}
 use Rattle.text_core.specs.declared.name.Name.{Name}
+use Rattle.source_kinds.specs.declared.kinds.IntKind.{IntKind}
+use Rattle.source_kinds.specs.declared.kinds.IntKind.TheVariants.{I8, I16, I32, I64, Isize, U8, U16, U32, U64, Usize}
+use Rattle.source_kinds.specs.Range.{fits}
 use Rattle.logic_term.specs.declared.declaration.AdtDecl.{AdtDecl}
+use Rattle.logic_term.specs.declared.kinds.Ctor.TheVariants.{Tuple}
 use Rattle.logic_term.specs.declared.kinds.Label.{Label}
 use Rattle.logic_term.specs.declared.obligation.Contract.{Contract}
+use Rattle.logic_term.specs.Sort.{Declarations, HasSort, instance, of_int, of_bool, of_tuple, of_none}
+use Rattle.logic_term.specs.Theory.{declared}
+use Rattle.logic_term.specs.Ty.{Ty, int, bool, tuple, no_tys}
+use Rattle.logic_term.specs.Value.{Value, Number, Flag, Made, no_values}
+use Rattle.mir_ir.specs.Declares.{theory_in}
 use Rattle.mir_ir.specs.declared.body.Contracts.{Contracts}
 use Rattle.mir_ir.specs.declared.body.Body.{Body}
 use Rattle.mir_ir.specs.declared.body.Initialised.{Initialised}
@@ -15,6 +24,7 @@ use Rattle.mir_ir.specs.WellFormed.{AreSound, Labelling, MeetsMoveRows}
 use Rattle.prophecy_logic.specs.Loop.{is_whole, is_gone}
 use Rattle.prophecy_sim.specs.Programs as sim
 use Rattle.type_check.specs.declared.program.TypedFunction.{TypedFunction}
+use Rattle.type_check.specs.Plain.{IsScalar}
 use Rattle.mir_build.specs.Laws.{Lowers, HeadsAreThere}
 use Rattle.mir_ir.specs.Names.{IsOneOf, IsNameIn}
 use Rattle.mir_build.proofs.LawsOfPrograms.{bodies_are_sound, bodies_are_laid_out, locals_have_names, locals_have_built_types, heads_speak_of_what_is_there, contracts_speak_of_parameters}
@@ -60,6 +70,34 @@ module _ (b : Body) (gone : Initialised) (i : Labelling) (h : HeadsAreThere b go
     there = λ l x set. not_true (is_gone gone l x) (there l x set);
   }
 
+-- ---- built types
+
+-- an integer, a truth value or `()` holds no references
+scalar_owned : (bs : Bodies) (ty : Ty) → IsScalar ty → sim.IsOwned bs (λ d. false) ty
+scalar_owned bs (int k) h = tt
+scalar_owned bs bool h = tt
+scalar_owned bs (tuple no_tys) h = tt
+scalar_owned bs _ h = absurd h
+
+zero_fits : (k : IntKind) → fits k (pos 0) ≡ true
+zero_fits I8 = refl
+zero_fits I16 = refl
+zero_fits I32 = refl
+zero_fits I64 = refl
+zero_fits Isize = refl
+zero_fits U8 = refl
+zero_fits U16 = refl
+zero_fits U32 = refl
+zero_fits U64 = refl
+zero_fits Usize = refl
+
+-- and each of these types has a value
+scalar_value : (Δ : Declarations) (ty : Ty) → IsScalar ty → (v : Value) × HasSort Δ v (instance no_tys ty)
+scalar_value Δ (int k) h = (Number (pos 0), of_int (zero_fits k))
+scalar_value Δ bool h = (Flag false, of_bool)
+scalar_value Δ (tuple no_tys) h = (Made Tuple no_values, of_tuple of_none)
+scalar_value Δ _ h = absurd h
+
 -- ---- programs
 
 pub gone_at : (gones : List Initialised) (n : ℕ) (g : Initialised) → slice_get gones n ≡ Some g → gone_of gones n ≡ g
@@ -90,7 +128,10 @@ module _ (table : List (List ℕ)) (ds : List AdtDecl) (fs : List TypedFunction)
         is_contract = c.2;
         simple = record {
           names = (locals_have_names table ds fs bs cs gones lowers n b is_body).0;
-          scalars = locals_have_built_types table ds fs bs cs gones lowers n b is_body;
+          owns = λ d. false;
+          fields = λ d k of own e. absurd (true≢false (sym own));
+          owned = λ x ty e. scalar_owned bs ty (locals_have_built_types table ds fs bs cs gones lowers n b is_body x ty e);
+          valued = λ x ty e. scalar_value (declared (theory_in bs)) ty (locals_have_built_types table ds fs bs cs gones lowers n b is_body x ty e);
           laid_out = bodies_are_laid_out table ds fs bs cs gones lowers n b is_body;
         };
         speaks = c.4;

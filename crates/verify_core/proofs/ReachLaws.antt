@@ -10,7 +10,7 @@ use Rattle.mir_ir.specs.declared.place.Operand.{Operand}
 use Rattle.mir_ir.specs.declared.place.Place.{Place}
 use Rattle.mir_ir.specs.declared.terminator.Callee.{Callee}
 use Rattle.mir_ir.specs.declared.terminator.TerminatorKind.{TerminatorKind}
-use Rattle.mir_ir.specs.declared.terminator.TerminatorKind.TheVariants.{Goto, If, Call, Return, Panic}
+use Rattle.mir_ir.specs.declared.terminator.TerminatorKind.TheVariants.{Goto, If, Switch, Call, Return, Panic}
 use Rattle.verify_core.specs.Flags.{is_unset, end_calls_unset, calls_unset, ReachesOpen, AreJustified, AreSettled, Unsets, set_count}
 use Rattle.prophecy_sim.specs.declared.node.Node.{Node}
 use Rattle.prophecy_sim.specs.declared.node.Node.TheVariants.{Function}
@@ -112,6 +112,7 @@ call_found : (bodies : Bodies) (flags : List Bool) (k : TerminatorKind) → end_
 call_found bodies flags (Goto l) h = absurd (true≢false (sym h))
 call_found bodies flags (If o l m) h = absurd (true≢false (sym h))
 call_found bodies flags Return h = absurd (true≢false (sym h))
+call_found bodies flags (Switch p ls) h = absurd (true≢false (sym h))
 call_found bodies flags (Panic cause) h = absurd (true≢false (sym h))
 call_found bodies flags (Call p callee types args l) h = found (callee_of bodies callee) refl h
   where

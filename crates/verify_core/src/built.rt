@@ -14,7 +14,7 @@ use std::alloc::Global;
 use text_core::{Code, Items, Names, PassError, SourceError, Span};
 
 /// The forms that are built. Whoever builds a form puts its word here.
-pub(crate) const BUILT: [Form; 39] = [
+pub(crate) const BUILT: [Form; 42] = [
     // ---- declared types
     Form::Struct,
     Form::Enum,
@@ -43,7 +43,9 @@ pub(crate) const BUILT: [Form; 39] = [
     Form::NotTerm,
     Form::ViewTerm,
     Form::BinaryTerm,
+    Form::IfTerm,
     Form::Forall,
+    Form::Exists,
     // ---- loops
     Form::Invariant,
     Form::While,
@@ -59,6 +61,8 @@ pub(crate) const BUILT: [Form; 39] = [
     Form::Binary,
     Form::Negative,
     Form::Not,
+    // Its type is of any built form: `type_check` refuses what is no integer.
+    Form::Cast,
     Form::Call,
     // The closure behind it is not built, and is what is refused.
     Form::ClosureInvariant,

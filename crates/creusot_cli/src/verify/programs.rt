@@ -229,6 +229,62 @@ end
     b"verified double\nsummary functions 1 verified 1 obligations 2 proved 2\n",
 );
 
+const EVEN: Example = (
+    b"// Twice a number, which is even.
+#[requires(-1000 <= x@)]
+#[requires(x@ <= 1000)]
+#[ensures(exists<k: Int> result@ == 2 * k)]
+fn twice(x: i32) -> i32 {
+    x + x
+}
+
+// A number, or the bound where that is larger.
+#[ensures(if x@ < low@ { result@ == low@ } else { result@ == x@ })]
+fn at_least(x: i32, low: i32) -> i32 {
+    if x < low { low } else { x }
+}
+",
+    b"creusot-proofs 1
+proof 1 twice
+intro x
+split
+lin 1:goal 2:1.1
+lin 1:goal 2:1.2
+end
+# The sum is twice x.
+proof 2 twice
+intro x sum
+exists x@
+antisym
+lin 1:goal 1:1.3
+lin 1:goal 1:-1.3
+end
+# The bound is larger, and then it is not.
+proof 1 at_least
+intro x low
+cond 1.1
+refl
+end
+proof 2 at_least
+intro x low
+cond 1.1
+refl
+end
+",
+    b"verified twice\nverified at_least\nsummary functions 2 verified 2 obligations 4 proved 4\n",
+);
+
+/// What `list` prints of it.
+const EVEN_GOALS: &[u8] = b"obligation 1 overflow 159..160 line 6 twice
+(forall<v1: i32> (((-1000) <= v1@) ==> ((v1@ <= 1000) ==> (((-2147483648) <= (v1@ + v1@)) && ((v1@ + v1@) <= 2147483647)))))
+obligation 2 ensures 93..124 line 4 twice
+(forall<v1: i32> (((-1000) <= v1@) ==> ((v1@ <= 1000) ==> (forall<v2: i32> ((v2@ == (v1@ + v1@)) ==> (exists<v3: Int> (v2@ == (2 * v3))))))))
+obligation 1 ensures 224..279 line 10 at_least
+(forall<v1: i32> (forall<v2: i32> ((v1@ < v2@) ==> (if (v1@ < v2@) { (v2@ == v2@) } else { (v2@ == v1@) }))))
+obligation 2 ensures 224..279 line 10 at_least
+(forall<v1: i32> (forall<v2: i32> ((!(v1@ < v2@)) ==> (if (v1@ < v2@) { (v1@ == v2@) } else { (v1@ == v1@) }))))
+";
+
 const GCD: Example = (
     b"// The greatest common divisor by subtraction; that both numbers stay positive is what is claimed.
 #[requires(a@ > 0)]
@@ -437,7 +493,66 @@ end
     b"verified max\nsummary functions 1 verified 1 obligations 8 proved 8\n",
 );
 
-const EXAMPLES: [Example; 7] = [ABS_DIFF, CLAMP, COUNTER, DOUBLE, GCD, ISQRT, MAX];
+const MEAN: Example = (
+    b"// The mean of two numbers, rounded down: in the wider type there is room for their sum.
+#[ensures(result@ + result@ <= a@ + b@)]
+#[ensures(a@ + b@ <= result@ + result@ + 1)]
+fn mean(a: u8, b: u8) -> u16 {
+    (a as u16 + b as u16) / 2
+}
+",
+    b"creusot-proofs 1
+# The sum has room.
+proof 1 mean
+intro a b v w
+range a
+range b
+split
+lin 1:goal 1:-1.1 1:-1.2 1:2.1 1:3.1
+lin 1:goal 1:1.1 1:1.2 1:2.2 1:3.2
+end
+proof 2 mean
+intro a b v w s
+contra
+lin 1:2.1
+end
+# The remainder is not negative.
+proof 3 mean
+intro a b v w s q
+range s
+div s@ ; 2
+cut !(2 == 0)
+contra
+lin 1:5.1
+mp 3.1 4.1
+cut 0 <= s@ && !(2 == 0)
+split
+hyp 2.1
+hyp 4.1
+mp 3.2 8.1
+lin 1:goal 2:1.4 1:-7.1 1:1.3 1:1.1 1:1.2 1:12.1
+end
+# The remainder is below 2.
+proof 4 mean
+intro a b v w s q
+div s@ ; 2
+cut !(2 == 0)
+contra
+lin 1:4.1
+mp 2.1 3.1
+cut 0 < 2
+lin 1:goal
+mp 2.4 7.1
+cases 9.1
+lin 1:goal 2:-1.4 1:6.1 1:-1.3 1:-1.1 1:-1.2 1:10.2
+end
+",
+    b"verified mean\nsummary functions 1 verified 1 obligations 4 proved 4\n",
+);
+
+const EXAMPLES: [Example; 9] = [
+    ABS_DIFF, CLAMP, COUNTER, DOUBLE, EVEN, GCD, ISQRT, MAX, MEAN,
+];
 
 #[test]
 fn small_programs_are_verified(rt: HostRuntime) -> Result<(), Fail> {
@@ -445,5 +560,15 @@ fn small_programs_are_verified(rt: HostRuntime) -> Result<(), Fail> {
         let call = Call::of(source, proofs);
         assert!(rt; call.gives(rt.alloc(), 0, printed)?, "row {at}");
     }
+    Ok(())
+}
+
+#[test]
+fn goals_of_exists_and_if_are_listed(rt: HostRuntime) -> Result<(), Fail> {
+    let call = Call {
+        words: &["list", "s"],
+        ..Call::of(EVEN.0, EVEN.1)
+    };
+    assert!(rt; call.gives(rt.alloc(), 0, EVEN_GOALS)?);
     Ok(())
 }

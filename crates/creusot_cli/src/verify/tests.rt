@@ -135,7 +135,7 @@ fn reports_are_byte_for_byte(rt: HostRuntime) -> Result<(), Fail> {
 }
 
 /// Sources, and what is printed of their refusal.
-const REFUSED: [(&[u8], &[u8]); 17] = [
+const REFUSED: [(&[u8], &[u8]); 18] = [
     // The words in their order, and tokens.
     (b"fn f(x: f64) -> i64 { x }", b"error E20 8..11 line 1\n"),
     (
@@ -175,6 +175,10 @@ const REFUSED: [(&[u8], &[u8]); 17] = [
         b"#[ensures(x > 0)] fn f(x: i32) {}",
         b"error E07 14..15 line 1\n",
     ),
+    (
+        b"fn f(x: i32) -> u8 { x as u8 }",
+        b"error E07 21..28 line 1\n",
+    ),
 ];
 
 #[test]
@@ -196,8 +200,8 @@ const NOT_BUILT: [(&[u8], &[u8]); 23] = [
     (b"fn f(x: u32) { x.y; }", b"error E20 15..16 line 1\n"),
     (b"fn f() { let (a, b) = 1; }", b"error E20 13..14 line 1\n"),
     (
-        b"fn f(x: i32) -> u8 { x as u8 }",
-        b"error E20 21..22 line 1\n",
+        b"fn f(x: i32) -> u8 { x as &u8 }",
+        b"error E20 26..27 line 1\n",
     ),
     (b"fn f() { return }", b"error E20 9..15 line 1\n"),
     // Behind what is passed over, and attributes at their `#`.
@@ -223,8 +227,8 @@ const NOT_BUILT: [(&[u8], &[u8]); 23] = [
         b"error E20 15..27 line 1\n",
     ),
     (
-        b"#[requires(exists<i: u32> i == x)] fn f(x: u32) {}",
-        b"error E20 11..17 line 1\n",
+        b"#[requires(exists<i: S> true)] fn f(x: u32) {}",
+        b"error E20 21..22 line 1\n",
     ),
     (
         b"#[requires(x == 1 && MutRef(x, x) == x)] fn f(x: u32) {}",

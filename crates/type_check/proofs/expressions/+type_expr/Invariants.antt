@@ -1,6 +1,6 @@
 use Rattle.std.proofs.Common.{◌≡◌, ◌≤◌, ◌+◌, ◌*◌, max, drop, length, Ok}
 use Rattle.source_trees.specs.ExprView.{expr_size, exprs_size, field_exprs_size, stmts_size, stmts_of, exprs_of, field_exprs_of}
-use Rattle.type_check.specs.Chains.{climbed, frames_size, right_of}
+use Rattle.type_check.specs.Chains.{climbed, frames_size, right_of, right_size}
 use Rattle.type_check.specs.Setting.{setting_of}
 use Rattle.type_check.specs.Literals.{made_by}
 use Rattle.type_check.specs.Typing.{typed, typed_args, typed_fields, typed_stmts}
@@ -17,10 +17,16 @@ abbrev pub decreases-type_form : goal.decreases-type_form
 decreases-type_form l = 5 * expr_size l.e.now
 
 abbrev pub decreases-type_behind : goal.decreases-type_behind
-decreases-type_behind l = 5 * expr_size (right_of l.frame.operation) + 2
+decreases-type_behind l = 5 * right_size l.frame.above + 3
+
+abbrev pub decreases-type_right : goal.decreases-type_right
+decreases-type_right l = 5 * expr_size (right_of l.operation) + 2
 
 abbrev pub decreases-type_unary : goal.decreases-type_unary
 decreases-type_unary l = 5 * expr_size l.a.now + 3
+
+abbrev pub decreases-type_cast : goal.decreases-type_cast
+decreases-type_cast l = 5 * expr_size l.a.now + 2
 
 abbrev pub decreases-type_binary : goal.decreases-type_binary
 decreases-type_binary l = 5 * max (expr_size l.a.now) (expr_size l.b.now) + 3
