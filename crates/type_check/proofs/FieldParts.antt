@@ -14,7 +14,7 @@ use Rattle.type_check.specs.Setting.{Setting}
 use Rattle.type_check.specs.TypedExpr.{TypedExpr, TypedExprs}
 use Rattle.type_check.specs.TypedExpr as tree
 use Rattle.type_check.specs.TypedExprView.{exprs_of}
-use Rattle.type_check.specs.Constructors.{Maker}
+use Rattle.type_check.specs.Makers.{Maker}
 use Rattle.type_check.specs.Typing.{fields_behind, next_field, no_field_left, typed, typed_fields}
 use Rattle.type_check.proofs.Arguments.{and_args, nothing_yet, one, one_more, onto_end}
 use Rattle.type_check.proofs.PartByPart.{along, refuses_then}

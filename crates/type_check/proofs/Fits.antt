@@ -45,7 +45,7 @@ use Rattle.type_check.specs.declared.statements.Step.{Step}
 use Rattle.type_check.specs.declared.typed.TypedStmt.{TypedStmt}
 use Rattle.text_core.specs.declared.refusal.SourceError.{SourceError}
 use Rattle.type_check.specs.Answers.{mismatch, unbuilt, unknown_name, not_mutable, with_some, gather}
-use Rattle.type_check.specs.Constructors.{Maker, maker_of}
+use Rattle.type_check.specs.Makers.{Maker, maker_of}
 use Rattle.type_check.specs.Functions.{function_from}
 use Rattle.type_check.specs.Leaves.{leaves}
 use Rattle.type_check.specs.Scope.{found}
@@ -62,7 +62,7 @@ use Rattle.type_check.specs.Typing.{not_next, built_field, next_field, fields_be
 use Rattle.type_check.specs.WellTyped.{unit, Surroundings, IsBuilt, PartsAreBuilt, AllBuilt, field_at, part_ty, tys_of_exprs, PartsFit, is_arithmetic, is_equality, operation_ty, is_signed, IsOf, IsOfOrLeaves, SpeaksOf, EachSpeaks, IsWellTyped, StatementsFit, ArgumentsFit}
 use Rattle.type_check.specs.Written.{name_alone, written_type, written_or_none, declared_by, step_of}
 use Rattle.type_check.proofs.Bound.{bound, held, yes, same_ok}
-use Rattle.type_check.proofs.Constructors.{IsMaker, maker_sound}
+use Rattle.type_check.proofs.Makers.{IsMaker, maker_sound}
 use Rattle.type_check.proofs.Lookups.{types, signatures_at, surroundings, found_type, callee_signature}
 use Rattle.logic_elab.proofs.SameSorts.{equal_types}
 use Rattle.type_check.proofs.Speaking.{assertion_speaks}

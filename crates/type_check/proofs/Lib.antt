@@ -6,8 +6,7 @@ pub mod BreakParts
 pub mod ByRules
 pub mod BuiltTypes
 pub mod Chains
-pub mod Constructing
-pub mod Constructors
+pub mod Makers
 pub mod Declaration
 pub mod Dropped
 pub mod FieldParts

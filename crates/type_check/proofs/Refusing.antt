@@ -40,7 +40,7 @@ use Rattle.type_check.specs.declared.scope.Variable.{Variable}
 use Rattle.type_check.specs.declared.statements.Step.{Step}
 use Rattle.type_check.specs.Answers.{◌>>=◌, unknown_name, mismatch, unbuilt, not_mutable, with_some, gather}
 use Rattle.type_check.specs.Causes.{IsMismatch, IsUnbuilt, IsNoValue, IsNotWritten, IsNotCalled, IsNoPart, IsNoField, IsNoType, IsNoTarget, root_name, Causes, CausesInStmts, CausesInArgs, CausesInFields}
-use Rattle.type_check.specs.Constructors.{Maker, maker_of}
+use Rattle.type_check.specs.Makers.{Maker, maker_of}
 use Rattle.type_check.specs.Scope.{found}
 use Rattle.type_check.specs.Breaks.{breaks}
 use Rattle.type_check.specs.Setting.{Setting, looping, outside}

@@ -31,7 +31,7 @@ use Rattle.type_check.specs.Types.{same_ty, is_signed_ty, is_built}
 use Rattle.type_check.specs.Typing.{fit, literal_kind, literal_of, literal, negated, is_bare, order_of, operands, operation, operated, cast_parts, cast_from, widened, is_mutable, may_write, assigned, is_updated, updated}
 use Rattle.type_check.specs.Typing.{local_of, made_alone, named_by, named, Called, of_function, of_maker, callee_of, params_of, call_of, called, asked, block_ty, without_last, closed, given, choice_ty, cause_of, nothing, returned, endless, invariant_of, parts_of, tupled, is_boxed, part_number, part_if, field_of, part_by, parted, selected, no_field_left, literal_made, typed, typed_stmts, typed_args, typed_fields}
 use Rattle.type_check.specs.Causes.{root_name}
-use Rattle.type_check.specs.Constructors.{maker_of}
+use Rattle.type_check.specs.Makers.{maker_of}
 use Rattle.type_check.specs.WellTyped.{unit, is_arithmetic, operation_ty, tys_of_exprs}
 use Rattle.type_check.specs.Written.{as_name, name_alone, written_type}
 use Rattle.type_check.proofs.Bound.{bound, held, yes, same_ok}

@@ -3,7 +3,7 @@ use Rattle.std.specs.Prelude.{◌≡◌, List, [], ◌∷◌, Option, Some, None
 use Rattle.text_core.specs.declared.refusal.Code.TheVariants.{E06, E22}
 use Rattle.text_core.specs.declared.refusal.SourceError.{SourceError}
 use Rattle.text_core.specs.declared.span.Span.{Span}
-use Rattle.text_core.specs.declared.fault.PassError.{PassError}
+pub use Rattle.constructors.specs.Answers.{AnswersAs}
 pub use Rattle.logic_elab.specs.Answers.{◌>>=◌, unknown_name, mismatch, unbuilt, wanted, pair, Refuses, Answers}
 
 -- ---- refusals
@@ -45,10 +45,3 @@ gather f (x ∷ xs) = do
   y ← f x
   ys ← gather f xs
   Ok (with_some y ys)
-
--- ---- what the code answers
-
--- value: what the definition speaks of, from what the code answers
-abbrev pub AnswersAs : {T A : Type 0} → Result T PassError → Result A SourceError → (T → A) → Type 0
-AnswersAs (Ok a) m value = m ≡ Ok (value a)
-AnswersAs (Err f) m value = Refuses f m

@@ -21,7 +21,7 @@ use Rattle.type_check.specs.declared.scope.Found.{Found}
 use Rattle.type_check.specs.declared.scope.Variable.{Variable}
 use Rattle.type_check.specs.declared.statements.Step.{Step}
 use Rattle.type_check.specs.Answers.{◌>>=◌, unknown_name, mismatch, unbuilt, not_mutable}
-use Rattle.type_check.specs.Constructors.{Maker, maker_of}
+use Rattle.type_check.specs.Makers.{Maker, maker_of}
 use Rattle.type_check.specs.Scope.{found}
 use Rattle.type_check.specs.Setting.{Setting, looping, outside}
 use Rattle.type_check.specs.TypedExpr.{TypedExpr}

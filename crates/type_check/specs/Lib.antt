@@ -3,7 +3,7 @@ pub mod Breaks
 pub mod Causes
 pub mod Chains
 pub mod Checked
-pub mod Constructors
+pub mod Makers
 pub mod DeclaredTypes
 pub mod Declaring
 pub mod FirstBad

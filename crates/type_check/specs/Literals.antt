@@ -5,17 +5,13 @@ use Rattle.logic_term.specs.Ty.{Ty, Tys}
 use Rattle.logic_term.specs.TyView.{tys_of}
 use Rattle.type_check.specs.declared.calling.Called.{Called as RustCalled}
 use Rattle.type_check.specs.declared.calling.Called.TheVariants as rust
-use Rattle.type_check.specs.declared.making.Constructor.{Constructor as RustConstructor}
 use Rattle.type_check.specs.declared.making.Maker.{Maker as RustMaker}
-use Rattle.type_check.specs.Constructors.{Constructor, Maker}
+use Rattle.type_check.specs.Makers.{Maker}
 use Rattle.type_check.specs.Typing.{Called, of_function, of_maker}
 
 abbrev pub arguments_as : Option (Vec Ty Global) → Option Tys
 arguments_as None = None
 arguments_as (Some ts) = Some (tys_of ts.items)
-
-abbrev pub constructor_by : RustConstructor → Constructor
-constructor_by c = record { number = c.id; variant = c.variant; regions = c.regions; params = c.params; kind = c.kind; fields = c.fields.now }
 
 abbrev pub made_by : RustMaker → Maker
 made_by m = record { number = m.id; variant = m.variant; arguments = tys_of m.arguments.items; fields = m.fields.now }

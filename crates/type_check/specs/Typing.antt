@@ -44,7 +44,7 @@ use Rattle.type_check.specs.declared.scope.Variable.{Variable}
 use Rattle.type_check.specs.declared.statements.Step.{Step}
 use Rattle.type_check.specs.declared.typed.TypedStmt.{TypedStmt}
 use Rattle.type_check.specs.Answers.{◌>>=◌, unknown_name, double_name, mismatch, unbuilt, not_mutable, wanted, gather}
-use Rattle.type_check.specs.Constructors.{Maker, maker_of}
+use Rattle.type_check.specs.Makers.{Maker, maker_of}
 use Rattle.type_check.specs.Functions.{function_from}
 use Rattle.type_check.specs.Breaks.{breaks}
 use Rattle.type_check.specs.Leaves.{leaves}

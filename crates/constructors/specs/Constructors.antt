@@ -1,5 +1,5 @@
 -- What makes a value: a struct, or a variant of an enum, by a name or a path (Rust Reference, "Path expressions", "Call expressions", "Struct expressions",
--- "Enumerations", "The Rust Standard Library prelude"). The types for its parameters are so far those of the expected type.
+-- "Enumerations", "Struct patterns", "The Rust Standard Library prelude").
 use Rattle.std.specs.Prelude.{ℕ, zero, suc, ◌==◌, Bool, true, false, ◌&&◌, List, [], ◌∷◌, Option, Some, None, Result, Ok, Err, slice_get, if◌then◌else◌}
 use Rattle.text_core.specs.declared.name.Name.{Name}
 use Rattle.text_core.specs.declared.refusal.SourceError.{SourceError}
@@ -10,13 +10,12 @@ use Rattle.logic_term.specs.declared.declaration.VariantDecl.{VariantDecl}
 use Rattle.logic_term.specs.declared.declaration.VariantKind.{VariantKind}
 use Rattle.logic_term.specs.declared.declaration.VariantKind.TheVariants.{Named, Numbered, Unit as Alone}
 use Rattle.logic_term.specs.declared.kinds.AdtId.{AdtId}
-use Rattle.logic_term.specs.Ty.{Ty, Tys, adt, no_tys}
 use Rattle.rs_types.specs.Table.{number_of}
 use Rattle.source_trees.specs.declared.path.PathNode.{PathNode}
 use Rattle.source_trees.specs.declared.path.PathNode.TheVariants.{Names}
 use Rattle.source_trees.specs.declared.path.Segment.{Segment}
-use Rattle.type_check.specs.Answers.{◌>>=◌, unknown_name, mismatch, unbuilt}
-use Rattle.type_check.specs.Types.{is_built}
+use Rattle.constructors.specs.declared.finding.Constructor.{Constructor as RustConstructor}
+use Rattle.constructors.specs.Answers.{unknown_name, unbuilt}
 
 -- a struct or a variant, with how many lifetimes and types its declared type takes
 pub record Constructor : Type 0 where
@@ -99,29 +98,7 @@ constructor_of ds s (Names x [] []) = known_constructor x.span (constructor_name
 constructor_of ds s (Names x (v ∷ []) []) = in_type_at ds x v (number_of x.name.0 ds)
 constructor_of ds s p = Err (unbuilt s)
 
--- ---- at types for its parameters
-
-pub record Maker : Type 0 where
-  pub number : AdtId
-  pub variant : ℕ
-  pub arguments : Tys
-  pub fields : List FieldDecl
-
--- the types for the parameters: so far those of the expected type, where there are parameters
-abbrev pub arguments_from : ℕ → Option Ty → Option Tys
-arguments_from n (Some (adt d rs ts)) = if d.0 == n then Some ts else None
-arguments_from n _ = None
-
-abbrev pub arguments_for : ℕ → ℕ → Option Ty → Option Tys
-arguments_for zero n t = Some no_tys
-arguments_for (suc k) n t = arguments_from n t
-
-abbrev pub maker_at : Constructor → Tys → Maker
-maker_at c ts = record { number = c.number; variant = c.variant; arguments = ts; fields = c.fields }
-
-abbrev pub maker_by : List AdtDecl → Span → Constructor → Option Tys → Result Maker SourceError
-maker_by ds s c None = Err (unbuilt s)
-maker_by ds s c (Some ts) = if (c.regions == 0) && is_built ds (adt c.number [] ts) then Ok (maker_at c ts) else Err (unbuilt s)
+-- ---- how its fields are written
 
 abbrev pub same_kind : VariantKind → VariantKind → Bool
 same_kind Named Named = true
@@ -129,9 +106,7 @@ same_kind Numbered Numbered = true
 same_kind Alone Alone = true
 same_kind _ _ = false
 
--- where its fields are written so; the span is that of the expression
-abbrev pub maker_if : List AdtDecl → VariantKind → Option Ty → Span → Constructor → Result Maker SourceError
-maker_if ds k t s c = if same_kind k c.kind then maker_by ds s c (arguments_for c.params c.number.0 t) else Err (mismatch s)
+-- ---- what the code answers, as the definition has it
 
-unfoldable pub maker_of : List AdtDecl → VariantKind → Option Ty → Span → PathNode → Result Maker SourceError
-maker_of ds k t s p = constructor_of ds s p >>= maker_if ds k t s
+abbrev pub constructor_by : RustConstructor → Constructor
+constructor_by c = record { number = c.id; variant = c.variant; regions = c.regions; params = c.params; kind = c.kind; fields = c.fields.now }

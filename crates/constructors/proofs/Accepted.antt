@@ -1,0 +1,22 @@
+-- What an accepted chain of parts has come through.
+use Rattle.std.proofs.Common.{◌≡◌, Bool, true, false, refl, Result, Ok, Err}
+use Rattle.std.specs.Prelude.{if◌then◌else◌}
+use Rattle.text_core.specs.declared.refusal.SourceError.{SourceError}
+use Rattle.constructors.specs.Answers.{◌>>=◌}
+
+-- the value of a part, and what comes after it
+pub bound : {A B : Type 0} (m : Result A SourceError) (k : A → Result B SourceError) (b : B) → (m >>= k) ≡ Ok b → (a : A) × (m ≡ Ok a) × (k a ≡ Ok b)
+bound (Ok a) k b p = (a, refl, p)
+bound (Err e) k b p = absurd (cc)
+
+-- the test of a choice whose other side refuses
+pub held : {A : Type 0} (b : Bool) (m : Result A SourceError) (e : SourceError) (x : A) → (if b then m else Err e) ≡ Ok x → (b ≡ true) × (m ≡ Ok x)
+held true m e x p = (refl, p)
+held false m e x p = absurd (cc)
+
+-- a value that is accepted
+abbrev pub yes : {A : Type 0} → A → Result A SourceError
+yes a = Ok a
+
+pub same_ok : {A : Type 0} (x y : A) → yes x ≡ Ok y → x ≡ y
+same_ok x y p = cc

@@ -1,0 +1,16 @@
+-- What a source is refused for, and how the code's answers stand for what a definition comes to.
+use Rattle.std.specs.Prelude.{◌≡◌, None, Result, Ok, Err}
+use Rattle.text_core.specs.declared.fault.PassError.{PassError}
+use Rattle.text_core.specs.declared.refusal.Code.TheVariants.{E20}
+use Rattle.text_core.specs.declared.refusal.SourceError.{SourceError}
+use Rattle.text_core.specs.declared.span.Span.{Span}
+pub use Rattle.rs_types.specs.Meant.{◌>>=◌, unknown_name, mismatch, Refuses, Answers}
+
+-- a form that is not built
+abbrev pub unbuilt : Span → SourceError
+unbuilt s = record { code = E20; span = s; other = None }
+
+-- value: what the definition speaks of, from what the code answers
+abbrev pub AnswersAs : {T A : Type 0} → Result T PassError → Result A SourceError → (T → A) → Type 0
+AnswersAs (Ok a) m value = m ≡ Ok (value a)
+AnswersAs (Err f) m value = Refuses f m

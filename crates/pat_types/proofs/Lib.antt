@@ -1,0 +1,5 @@
+pub mod Counts
+pub mod Places
+pub mod Sizes
+pub mod TypeLists
+pub mod Unmade

@@ -1,0 +1,13 @@
+//! Written patterns at a type: what they match, and the names that they bind.
+#![tactic(auto)]
+
+mod fields;
+mod leaves;
+mod names;
+mod parts;
+mod refusal;
+mod seen;
+mod typing;
+
+pub use names::BoundName;
+pub use typing::{PatternTyping, type_pattern};
