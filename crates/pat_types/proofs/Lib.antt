@@ -1,4 +1,6 @@
 pub mod Counts
+pub mod Fitting
+pub mod Listed
 pub mod Places
 pub mod Sizes
 pub mod TypeLists

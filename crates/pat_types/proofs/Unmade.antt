@@ -1,5 +1,5 @@
 -- What no constructor makes, and constructors without parts.
-use Rattle.std.proofs.Common.{◌≡◌, ◌≢◌, ◌<◌, List, [], ◌∷◌, length, Err, refl, arith}
+use Rattle.std.proofs.Common.{◌≡◌, ◌<◌, List, [], ◌∷◌, length, Err, refl, arith}
 use Rattle.text_core.specs.declared.span.Span.{Span}
 use Rattle.logic_term.specs.declared.declaration.VariantKind.{VariantKind}
 use Rattle.logic_term.specs.declared.kinds.Ctor.{Ctor}

@@ -1,7 +1,7 @@
 -- What a written pattern comes to at the type of its value (Rust Reference, "Patterns", with "Identifier patterns", "Binding modes", "Literal patterns",
 -- "Tuple patterns", "Struct patterns", "Tuple struct patterns" and "Path patterns"; "Destructuring"): its tree, and the names that it binds, from left to
 -- right. Parts come in source order, each before what it stands in; the first that is refused refuses the whole.
-use Rattle.std.specs.Prelude.{◌≡◌, ℕ, zero, suc, ℤ, ◌==◌, Bool, true, false, ◌&&◌, ◌||◌, not, List, [], ◌∷◌, ◌++◌, length, map, replicate, Option, Some, None, Result, Ok, Err, slice_set, get_or, if◌then◌else◌}
+use Rattle.std.specs.Prelude.{ℕ, suc, ℤ, ◌==◌, Bool, true, false, ◌&&◌, ◌||◌, not, List, [], ◌∷◌, ◌++◌, length, map, replicate, Option, Some, None, Result, Ok, Err, slice_set, get_or, if◌then◌else◌}
 use Rattle.text_core.specs.declared.name.Name.{Name}
 use Rattle.text_core.specs.declared.refusal.SourceError.{SourceError}
 use Rattle.text_core.specs.declared.span.Span.{Span}

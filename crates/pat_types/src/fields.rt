@@ -98,11 +98,7 @@ impl FieldPatterns {
     }
 
     /// The patterns of all fields, where each is written or `..` stands behind those that are. E07 at the span where one is missing.
-    pub(crate) fn complete(
-        self,
-        span: Span,
-        rest: bool,
-    ) -> Result<Vec<TypedPat>, PassError>
+    pub(crate) fn complete(self, span: Span, rest: bool) -> Result<Vec<TypedPat>, PassError>
         ensures { (xs : List BoundName) → AnswersAs result (complete span rest (fields_by self, xs)) (λ v. (v.items, xs)) }
     {
         if rest || self.is_complete() {

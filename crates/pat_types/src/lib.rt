@@ -2,6 +2,7 @@
 #![tactic(auto)]
 
 mod fields;
+mod laws;
 mod leaves;
 mod names;
 mod parts;
@@ -9,5 +10,6 @@ mod refusal;
 mod seen;
 mod typing;
 
+pub use laws::{bound_names_are_listed, typed_patterns_fit};
 pub use names::BoundName;
 pub use typing::{PatternTyping, type_pattern};

@@ -14,7 +14,9 @@ ghost use Rattle.pat_types.specs.Makers.{constructors_as, maker_by};
 use crate::leaves::pattern_of;
 use crate::refusal::mismatch;
 use constructors::{Constructor, constructor_named, same_kind};
-use logic_term::{CompoundTy, Ctor, FieldDecl, PatNode, Ty, TyNode, TypedPat, VariantKind, copy_types};
+use logic_term::{
+    CompoundTy, Ctor, FieldDecl, PatNode, Ty, TyNode, TypedPat, VariantKind, copy_types,
+};
 use rs_types::{AdtTable, applied};
 use source_trees::{Path, PathNode, Segment};
 use std::alloc::Global;
@@ -41,11 +43,7 @@ pub(crate) fn tuple_maker(alloc: Global, span: Span, seen: &Ty) -> Result<Maker,
 }
 
 /// The types of the fields, at these types for the parameters.
-fn field_types(
-    alloc: Global,
-    arguments: &[Ty],
-    fields: &[FieldDecl],
-) -> Result<Vec<Ty>, NoMemory>
+fn field_types(alloc: Global, arguments: &[Ty], fields: &[FieldDecl]) -> Result<Vec<Ty>, NoMemory>
     ensures { IfOk result (λ ts. tys_of ts.items ≡ instances (tys_of arguments.now) (tys_of (map field_ty fields.now))) }
 {
     let mut types = Vec::with_capacity(alloc, fields.len())?;
@@ -71,8 +69,7 @@ pub(crate) fn makes(
     };
     match &**parts {
         CompoundTy::Adt(adt, _, arguments)
-            if same_kind(kind, constructor.kind) && adt.0 == constructor.id.0 =>
-        {
+            if same_kind(kind, constructor.kind) && adt.0 == constructor.id.0 => {
             Ok(Maker {
                 ctor: Ctor::Variant(constructor.id, constructor.variant),
                 types: field_types(alloc, arguments, constructor.fields)?,

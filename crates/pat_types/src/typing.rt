@@ -120,7 +120,15 @@ fn type_tuple(
 {
     let (inner, seen) = seen(mode, ty);
     let maker = tuple_maker(alloc, span, seen)?;
-    let parts = type_parts(alloc, types, inner, span, names, parts, maker.types.as_slice())?;
+    let parts = type_parts(
+        alloc,
+        types,
+        inner,
+        span,
+        names,
+        parts,
+        maker.types.as_slice(),
+    )?;
     Ok(shaped(alloc, ty, maker.ctor, parts)?)
 }
 
@@ -141,7 +149,15 @@ fn type_made(
     let constructor = constructor_of(types, span, path)?;
     let (inner, seen) = seen(mode, ty);
     let maker = makes(alloc, span, VariantKind::Numbered, seen, constructor)?;
-    let parts = type_parts(alloc, types, inner, span, names, parts, maker.types.as_slice())?;
+    let parts = type_parts(
+        alloc,
+        types,
+        inner,
+        span,
+        names,
+        parts,
+        maker.types.as_slice(),
+    )?;
     Ok(shaped(alloc, ty, maker.ctor, parts)?)
 }
 

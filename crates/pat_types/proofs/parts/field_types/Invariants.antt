@@ -1,4 +1,4 @@
-use Rattle.std.proofs.Common.{◌≡◌, ◌++◌, drop, map}
+use Rattle.std.proofs.Common.{◌≡◌, drop, map}
 use Rattle.logic_term.specs.Sort.{instances}
 use Rattle.logic_term.specs.Theory.{field_ty}
 use Rattle.logic_term.specs.TyView.{tys_of}

@@ -1,5 +1,4 @@
 use Rattle.std.proofs.Common.{◌∙◌, sym, subst, arith}
-use Rattle.logic_term.specs.TyView.{tys_of}
 use Rattle.pat_types.specs.Answers.{Gives}
 use Rattle.pat_types.specs.PatternTyping.{typed}
 use Rattle.pat_types.proofs.Counts.{one_missing, one_too_many}
