@@ -73,4 +73,3 @@ unfolding constructor_of
 constructor_found ds s (Names x [] []) c p = known_found ds x.span (constructor_named ds x.name) c (named_found ds x.name) p
 constructor_found ds s (Names x (v ∷ []) []) c p = in_types_found ds x v (number_of x.name.0 ds) c p
 constructor_found ds s w c p = absurd (cc)
-

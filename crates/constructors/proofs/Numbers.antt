@@ -1,5 +1,5 @@
 -- What the code finds is what the definitions have.
-use Rattle.std.proofs.Common.{◌≡◌, ℕ, Option, Some, refl}
+use Rattle.std.proofs.Common.{◌≡◌, Option, Some, refl}
 use Rattle.std.specs.Option.{option_map}
 use Rattle.logic_term.specs.declared.kinds.AdtId.{AdtId}
 
