@@ -1,5 +1,6 @@
 //! What bodies are made of sources.
 use crate::printed::push_body;
+use declared_types::declare;
 use logic_term::{Label, TyNode};
 use mir_build::{Lowered, lower};
 use mir_ir::{Body, Initialised};
@@ -8,7 +9,7 @@ use std::alloc::Global;
 use std::process::Abort;
 use std::test::Fail;
 use text_core::{Names, Span};
-use type_check::{check, declare};
+use type_check::check;
 
 const A_LOOP: &[u8] = b"fn f(b: bool, mut x: i32) { #[invariant(b)] while x != 0 { x = x - 1; } }";
 

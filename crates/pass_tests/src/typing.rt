@@ -1,10 +1,11 @@
 //! Names and types, from the texts of sources: what is accepted, and which refusal stands where.
+use declared_types::declare;
 use rs_syntax::parse;
 use source_trees::Item;
 use std::alloc::Global;
 use std::process::Abort;
 use text_core::{Code, Names, PassError};
-use type_check::{check, declare};
+use type_check::check;
 
 /// A source, and the code and the place of its refusal if it is refused.
 type Row = (&'static [u8], Option<(Code, u32, u32)>);

@@ -1,17 +1,11 @@
 -- What a pattern is refused for, and how the code's answers stand for what the definition comes to.
-use Rattle.std.specs.Prelude.{◌≡◌, None, List, Result, Ok, Err}
+use Rattle.std.specs.Prelude.{◌≡◌, List, Result, Ok, Err}
 use Rattle.text_core.specs.declared.fault.PassError.{PassError}
-use Rattle.text_core.specs.declared.refusal.Code.TheVariants.{E06}
 use Rattle.text_core.specs.declared.refusal.SourceError.{SourceError}
-use Rattle.text_core.specs.declared.span.Span.{Span}
 use Rattle.logic_term.specs.Pattern.{Pat}
 use Rattle.logic_term.specs.declared.pattern.TypedPat.{TypedPat}
 use Rattle.pat_types.specs.declared.names.BoundName.{BoundName}
-pub use Rattle.constructors.specs.Answers.{◌>>=◌, AnswersAs, unbuilt, unknown_name, mismatch, Refuses, Answers}
-
--- a name or a field twice
-abbrev pub double_name : Span → SourceError
-double_name s = record { code = E06; span = s; other = None }
+pub use Rattle.constructors.specs.Answers.{◌>>=◌, AnswersAs, double_name, unbuilt, unknown_name, mismatch, Refuses, Answers}
 
 -- the code answers a tree, and has these names
 abbrev pub Gives : Result TypedPat PassError → Result (Pat × List BoundName) SourceError → List BoundName → Type 0

@@ -16,7 +16,7 @@ use Rattle.logic_term.specs.TyView.{compound_of, made_by}
 use Rattle.source_trees.specs.declared.path.Segment.{Segment}
 use Rattle.type_check.specs.Answers.{unknown_name}
 use Rattle.type_check.specs.Makers.{arguments_from}
-use Rattle.type_check.specs.DeclaredTypes.{numbered}
+use Rattle.constructors.specs.FieldNames.{numbered}
 use Rattle.type_check.specs.Typing.{field_from, field_of, part_of, part_if, with_number}
 use Rattle.type_check.specs.WellTyped.{field_at, nth_part, part_ty, struct_fields}
 

@@ -1,4 +1,3 @@
-pub mod Accepting
 pub mod Arguments
 pub mod BlockEnds
 pub mod Bound
@@ -7,7 +6,6 @@ pub mod ByRules
 pub mod BuiltTypes
 pub mod Chains
 pub mod Makers
-pub mod Declaration
 pub mod Dropped
 pub mod FieldParts
 pub mod FoundParts

@@ -1,23 +1,15 @@
 -- What a source is refused for, how parts come one after another, and how the code's answers stand for what a definition comes to.
-use Rattle.std.specs.Prelude.{◌≡◌, List, [], ◌∷◌, Option, Some, None, Result, Ok, Err}
-use Rattle.text_core.specs.declared.refusal.Code.TheVariants.{E06, E22}
+use Rattle.std.specs.Prelude.{List, [], ◌∷◌, Option, Some, None, Result, Ok, Err}
+use Rattle.text_core.specs.declared.refusal.Code.TheVariants.{E22}
 use Rattle.text_core.specs.declared.refusal.SourceError.{SourceError}
 use Rattle.text_core.specs.declared.span.Span.{Span}
-pub use Rattle.constructors.specs.Answers.{AnswersAs}
+pub use Rattle.constructors.specs.Answers.{AnswersAs, double_name, or_else, with_some}
 pub use Rattle.logic_elab.specs.Answers.{◌>>=◌, unknown_name, mismatch, unbuilt, wanted, pair, Refuses, Answers}
 
 -- ---- refusals
 
-abbrev pub double_name : Span → SourceError
-double_name s = record { code = E06; span = s; other = None }
-
 abbrev pub not_mutable : Span → SourceError
 not_mutable s = record { code = E22; span = s; other = None }
-
--- the first of two
-abbrev pub or_else : Option SourceError → Option SourceError → Option SourceError
-or_else (Some e) m = Some e
-or_else None m = m
 
 -- ---- one part after another
 
@@ -33,10 +25,6 @@ each f (x ∷ xs) = do
   y ← f x
   ys ← each f xs
   Ok (y ∷ ys)
-
-abbrev pub with_some : {B : Type 0} → Option B → List B → List B
-with_some None ys = ys
-with_some (Some y) ys = y ∷ ys
 
 -- each of a list that makes something
 abbrev pub gather : {A B : Type 0} → (A → Result (Option B) SourceError) → List A → Result (List B) SourceError

@@ -4,8 +4,6 @@ pub mod Causes
 pub mod Chains
 pub mod Checked
 pub mod Makers
-pub mod DeclaredTypes
-pub mod Declaring
 pub mod FirstBad
 pub mod Functions
 pub mod Laws

@@ -54,7 +54,7 @@ use Rattle.type_check.specs.Terms.{assertion}
 use Rattle.type_check.specs.TypedExpr.{TypedExpr, TypedStmts, TypedExprs}
 use Rattle.type_check.specs.TypedExpr as tree
 use Rattle.type_check.specs.TypedExprView.{ty_of, stmt_of, stmts_of}
-use Rattle.type_check.specs.DeclaredTypes.{numbered}
+use Rattle.constructors.specs.FieldNames.{numbered}
 use Rattle.type_check.specs.Types.{same_ty, is_signed_ty, is_built, are_built}
 use Rattle.type_check.specs.WellTyped.{unit, is_arithmetic, operation_ty, nth_part, struct_fields, field_at, tys_of_exprs}
 use Rattle.type_check.specs.Written.{name_alone, step_of, written_type}

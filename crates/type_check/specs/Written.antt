@@ -7,7 +7,8 @@ use Rattle.logic_term.specs.declared.declaration.AdtDecl.{AdtDecl}
 use Rattle.logic_term.specs.Ty.{Ty, unit_ty}
 use Rattle.rs_types.specs.declared.written.Elision.{Elision}
 use Rattle.rs_types.specs.declared.written.Elision.TheVariants.{Erased}
-use Rattle.rs_types.specs.Meant.{Scope, meant}
+use Rattle.rs_types.specs.Meant.{meant}
+pub use Rattle.constructors.specs.FunctionScope.{function_scope}
 use Rattle.source_trees.specs.declared.param.Param.{Param}
 use Rattle.source_trees.specs.declared.param.ParamNode.{ParamNode}
 use Rattle.source_trees.specs.declared.param.ParamNode.TheVariants as param
@@ -36,10 +37,6 @@ as_name (E.path s p) = name_alone p.node
 as_name _ = None
 
 -- ---- types
-
--- no lifetime and no type parameter of a function is built
-abbrev pub function_scope : List AdtDecl → Scope
-function_scope ds = record { declared = ds; lifetimes = []; parameters = []; self_ty = None; has_int = false }
 
 abbrev pub type_of_meaning : List AdtDecl → Span → Ty × Elision → Result Ty SourceError
 type_of_meaning ds s m = if is_built ds m.0 then Ok m.0 else Err (unbuilt s)

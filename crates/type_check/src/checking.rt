@@ -4,7 +4,6 @@ ghost use Rattle.type_check.specs.Checked.{AllGood, answer_at, checked, clause_o
 ghost use Rattle.type_check.specs.Setting.{setting_of};
 ghost use Rattle.type_check.specs.WellTyped.{ProgramFits};
 
-use crate::declarations::Declared;
 use crate::declaring::{headings_of, signature_of, variables_of};
 use crate::elaborate::assertion;
 use crate::expressions::type_expr;
@@ -17,6 +16,7 @@ use crate::scope::Variable;
 use crate::setting::Setting;
 use crate::typed::TypedExpr;
 use crate::written::answer_ty;
+use constructors::Declared;
 use logic_term::Ty;
 use rs_types::AdtTable;
 use source_trees::{

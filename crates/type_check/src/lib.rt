@@ -7,15 +7,10 @@ mod calling;
 mod casting;
 mod chain;
 mod checking;
-mod checks;
-mod declarations;
 mod declaring;
-mod double;
 mod elaborate;
 mod expressions;
-mod fields;
 mod heading;
-mod heads;
 mod laws;
 mod leaving;
 mod lists;
@@ -39,7 +34,6 @@ mod written;
 
 pub use assertion::Assertion;
 pub use checking::check;
-pub use declarations::{Declared, declare};
 pub use elaborate::{answer_name, variable_name};
 pub use laws::{
     checked_programs_fit, expressions_are_typed_by_rules, programs_that_run_are_plain,

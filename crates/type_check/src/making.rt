@@ -98,7 +98,6 @@ fn maker_by<'a>(
     })
 }
 
-
 /// What the path makes, where its fields are written so; the span is that of the expression. E05 at a name that is not known, and E07 at the
 /// expression where its fields are written in another way.
 #[tactic(auto, unfolding(crate::specs::Makers::maker_of))]

@@ -1,11 +1,12 @@
 //! Assignments from the texts of sources: what is accepted, and which refusal stands where.
+use declared_types::declare;
 use rs_syntax::parse;
 use source_trees::Item;
 use std::alloc::Global;
 use std::process::Abort;
 use std::test::Fail;
 use text_core::{Code, Names, PassError};
-use type_check::{TypedProgram, check, declare};
+use type_check::{TypedProgram, check};
 
 /// A source, and the code and the place of its refusal if it is refused.
 pub(crate) type Row = (&'static [u8], Option<(Code, u32, u32)>);

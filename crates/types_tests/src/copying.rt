@@ -1,12 +1,12 @@
 //! Which types are `Copy`, for tables of declared types that need not be accepted, and for the texts of sources.
 use crate::build::{decl, types};
+use declared_types::declare;
 use logic_term::{AdtDecl, AdtId, CompoundTy, Ty};
 use rs_syntax::parse;
 use rs_types::CopyTypes;
 use std::alloc::Global;
 use std::test::Fail;
 use text_core::{Names, NoMemory};
-use type_check::declare;
 
 /// A declared type by its variants, and whether it derives `Copy`.
 type Decl = (&'static [&'static [u8]], bool);

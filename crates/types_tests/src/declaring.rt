@@ -1,11 +1,11 @@
 //! Declared types from the texts of sources: what is accepted, and which refusal stands where.
+use declared_types::declare;
 use rs_syntax::parse;
 use std::alloc::Global;
 use std::process::Abort;
 use std::test::Fail;
 use text_core::name::OPTION;
 use text_core::{Code, Names, PassError};
-use type_check::declare;
 
 /// A source, and the code and the place of its refusal if it is refused.
 type Row = (&'static [u8], Option<(Code, u32, u32)>);

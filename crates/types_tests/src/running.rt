@@ -1,10 +1,11 @@
 //! What of a program does not run yet, from the texts of sources.
+use declared_types::declare;
 use rs_syntax::parse;
 use source_trees::Item;
 use std::alloc::Global;
 use std::test::Fail;
 use text_core::{Names, PassError, Span};
-use type_check::{check, declare, first_unrun};
+use type_check::{check, first_unrun};
 
 /// A source, and the place of the first function or expression that does not run.
 type Row = (&'static [u8], Option<(u32, u32)>);

@@ -12,8 +12,8 @@ use Rattle.type_check.specs.declared.program.TypedProgram.{TypedProgram}
 use Rattle.rs_types.specs.Checked.{IsFirst}
 use Rattle.rs_types.proofs.OneRefusal.{first_does_not_hold, one_first}
 use Rattle.type_check.specs.Checked.{checked}
-use Rattle.type_check.specs.DeclaredTypes.{declared_types}
-use Rattle.type_check.specs.Declaring.{checks}
+use Rattle.declared_types.specs.DeclaredTypes.{declared_types}
+use Rattle.declared_types.specs.Declaring.{checks}
 use Rattle.type_check.specs.Answers.{unbuilt}
 use Rattle.type_check.specs.Unrun.{first_unrun}
 use Rattle.mir_build.specs.Lowering.{LowerTo, HasMoreBlocks}

@@ -35,8 +35,8 @@ use Rattle.type_check.specs.declared.program.TypedFunction.{TypedFunction}
 use Rattle.type_check.specs.declared.program.TypedProgram.{TypedProgram}
 use Rattle.type_check.specs.Answers.{unbuilt, Refuses as TypesRefuse}
 use Rattle.type_check.specs.Checked.{checked}
-use Rattle.type_check.specs.DeclaredTypes.{declared_types}
-use Rattle.type_check.specs.Declaring.{checks}
+use Rattle.declared_types.specs.DeclaredTypes.{declared_types}
+use Rattle.declared_types.specs.Declaring.{checks}
 use Rattle.type_check.specs.Plain.{EachIsPlain}
 use Rattle.type_check.specs.Unrun.{first_unrun}
 use Rattle.type_check.proofs.Unrun.{each_is_plain}

@@ -12,7 +12,7 @@ use Rattle.mir_machine.specs.Step.{Stuck, after as state_after}
 use Rattle.mir_machine.specs.Tree.{Tree}
 use Rattle.mir_machine.specs.Typed.{Met}
 use Rattle.mir_machine.proofs.NeverStuck.{never_stuck}
-use Rattle.type_check.specs.DeclaredTypes.{declared_types}
+use Rattle.declared_types.specs.DeclaredTypes.{declared_types}
 use Rattle.mir_build.specs.Laws.{Lowers}
 use Rattle.prophecy_sim.specs.Programs as sim
 use Rattle.prophecy_sim.proofs.GoodBody.{good as true_makes_good}

@@ -10,7 +10,7 @@ use Rattle.mir_ir.specs.declared.body.Body.{Body}
 use Rattle.mir_ir.specs.Body.{no_resolves}
 use Rattle.mir_ir.specs.Layout.{IsLaidOut}
 use Rattle.type_check.specs.declared.program.TypedProgram.{TypedProgram}
-use Rattle.type_check.specs.DeclaredTypes.{declared_types}
+use Rattle.declared_types.specs.DeclaredTypes.{declared_types}
 use Rattle.mir_build.specs.declared.lowered.Lowered.{Lowered}
 use Rattle.prophecy_logic.specs.Graph.{Setting}
 use Rattle.prophecy_logic.specs.Walkable.{CanWalk}

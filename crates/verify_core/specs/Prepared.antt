@@ -20,8 +20,8 @@ use Rattle.rs_syntax.specs.Parsed.{functions_among, most_functions}
 use Rattle.type_check.specs.declared.program.TypedProgram.{TypedProgram}
 use Rattle.rs_types.specs.Checked.{AllPass, IsFirst}
 use Rattle.type_check.specs.Checked.{checked}
-use Rattle.type_check.specs.DeclaredTypes.{declared_types}
-use Rattle.type_check.specs.Declaring.{checks}
+use Rattle.declared_types.specs.DeclaredTypes.{declared_types}
+use Rattle.declared_types.specs.Declaring.{checks}
 use Rattle.type_check.specs.Answers.{unbuilt}
 use Rattle.type_check.specs.Unrun.{first_unrun}
 use Rattle.mir_build.specs.Lowering.{LowerTo, HasMoreBlocks}

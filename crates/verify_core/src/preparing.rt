@@ -16,6 +16,7 @@ use crate::built::built_items;
 use crate::fault::Refusal;
 use crate::owed::Owed;
 use crate::program::Program;
+use declared_types::declare;
 use logic_term::Obligation;
 use mir_build::{Lowered, lower};
 use mir_ir::{Bodies, Resolves};
@@ -24,7 +25,7 @@ use prophecy_sim::Node;
 use rs_types::AdtTable;
 use std::alloc::Global;
 use text_core::{Code, Items, Limit, LimitKind, Names, NoMemory, SourceError, Span};
-use type_check::{TypedProgram, check, declare, first_unrun};
+use type_check::{TypedProgram, check, first_unrun};
 use wp_gen::{OBLIGATIONS, Walk, check_paths, counted_obligations, room_after};
 
 /// The most bytes of a source.

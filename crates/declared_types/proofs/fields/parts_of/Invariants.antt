@@ -1,0 +1,7 @@
+use Rattle.std.proofs.Common.{◌≡◌, ◌++◌, drop}
+use Rattle.rs_types.specs.Meant.{scope_of}
+use Rattle.declared_types.specs.DeclaredTypes.{parts_from}
+use Rattle.declared_types.proofs.fields.parts_of.Given as goal
+
+abbrev pub invariant-loop-i : goal.invariant-loop-i
+invariant-loop-i l = l.made ++ parts_from (scope_of l.scope) l.i (drop l.i l.types) ≡ parts_from (scope_of l.scope) 0 l.types

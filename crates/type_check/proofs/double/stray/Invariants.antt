@@ -1,6 +1,0 @@
-use Rattle.std.proofs.Common.{◌≡◌, drop}
-use Rattle.type_check.specs.Declaring.{stray}
-use Rattle.type_check.proofs.double.stray.Given as goal
-
-abbrev pub invariant-loop-attribute : goal.invariant-loop-attribute
-invariant-loop-attribute l = stray l.derives l.attributes ≡ stray l.derives (drop l.attribute-index l.attributes)

@@ -1,7 +1,0 @@
-use Rattle.std.proofs.Common.{◌≡◌, ◌++◌, drop}
-use Rattle.rs_types.specs.Meant.{scope_of}
-use Rattle.type_check.specs.DeclaredTypes.{fields_from}
-use Rattle.type_check.proofs.fields.fields_of.Given as goal
-
-abbrev pub invariant-loop-i : goal.invariant-loop-i
-invariant-loop-i l = l.made ++ fields_from (scope_of l.scope) l.i (drop l.i l.fields) ≡ fields_from (scope_of l.scope) 0 l.fields

@@ -1,6 +1,0 @@
-use Rattle.std.proofs.Common.{◌≡◌, drop}
-use Rattle.type_check.specs.DeclaredTypes.{declares_option}
-use Rattle.type_check.proofs.heads.declares_option.Given as goal
-
-abbrev pub invariant-loop-item : goal.invariant-loop-item
-invariant-loop-item l = declares_option l.items ≡ declares_option (drop l.item-index l.items)

@@ -1,6 +1,0 @@
-use Rattle.std.proofs.Common.{◌≡◌, drop}
-use Rattle.type_check.specs.DeclaredTypes.{has_copy}
-use Rattle.type_check.proofs.heads.has_copy.Given as goal
-
-abbrev pub invariant-loop-name : goal.invariant-loop-name
-invariant-loop-name l = has_copy l.names ≡ has_copy (drop l.name-index l.names)
