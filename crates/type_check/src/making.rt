@@ -1,5 +1,5 @@
 //! Structs and variants at types for the parameters of their declared types.
-ghost use Rattle.std.specs.Prelude.{◌≡◌, ◌==◌, IfOk};
+ghost use Rattle.std.specs.Prelude.{◌≡◌, ◌==◌, [], IfOk};
 ghost use Rattle.logic_term.specs.Ty.{adt};
 ghost use Rattle.logic_term.specs.TyView.{tys_of};
 ghost use Rattle.constructors.specs.Constructors.{constructor_by};
