@@ -267,7 +267,7 @@ fn lines_but_comments_are_utf_8(rt: HostRuntime) {
 }
 
 /// Words of rules with another rest than theirs, and words of no step.
-const BAD_RULES: [&str; 90] = [
+const BAD_RULES: [&str; 103] = [
     "refl 1.1",
     "true ",
     "left 1.1",
@@ -349,6 +349,19 @@ const BAD_RULES: [&str; 90] = [
     "inst x",
     "inst 1 x",
     "inst 1.1 x; y",
+    "inst 1.1 x ;y",
+    "inst 1.1 x;y",
+    "inst 1.1 x  ; y",
+    "inst 1.1 x ;  y",
+    "inst 1.1 x ;",
+    "inst 1.1 x ; ",
+    "inst 1.1 ; y",
+    "inst 1.1  ; y",
+    "inst 1.1 x ; ; y",
+    "inst 1.1 x ; y ;",
+    "inst 1.1 x ; y z",
+    "inst 1.1 x ; y ; z w",
+    "inst x ; y",
     "back",
     "back 1.1 1.2",
     "cond",
@@ -361,7 +374,7 @@ const BAD_RULES: [&str; 90] = [
     "eta ",
 ];
 
-const RULES: [&str; 37] = [
+const RULES: [&str; 39] = [
     "refl",
     "true",
     "left",
@@ -391,6 +404,8 @@ const RULES: [&str; 37] = [
     "div a@ + 1 ; b",
     "inst 1.1 x",
     "inst 0.2 x@ + 1",
+    "inst 1.1 x ; y",
+    "inst 1.1 x@ + 1 ; f(y, z).a ; 5i32 ; x",
     "back 1.1",
     "cases 1.1 n",
     "cases 0.1 _1",

@@ -332,7 +332,7 @@ fn expect_refused(rt: &impl Abort, alloc: Global, rows: &[(&str, &str, u32)]) ->
 
 // ---- by a term, and back to machine integers
 
-const BY_TERM: [(&str, &str); 25] = [
+const BY_TERM: [(&str, &str); 26] = [
     ("ZW><z0<z0", "intro z w\ncut z < 0\nhyp 1.1\nhyp 2.1\n"),
     (
         "ZW><z0<z0",
@@ -397,11 +397,13 @@ const BY_TERM: [(&str, &str); 25] = [
     (">X<@x1<51", "intro\ninst 1.1 5i32\nhyp 2.1\n"),
     (">ZW<zw<12", "intro\ninst 1.1 1\ninst 2.1 2\nhyp 3.1\n"),
     (">ZZ<z1<21", "intro\ninst 1.1 1\ninst 2.1 2\nhyp 3.1\n"),
+    // Two terms at once, for the outer name and the inner one.
+    (">ZW<zw<12", "intro\ninst 1.1 1 ; 2\nhyp 2.1\n"),
     // The inner quantifier binds the name of the term, and does not capture it.
     ("Z>WZ<wzW<zw", "intro z\ninst 1.1 z\nhyp 2.1\n"),
 ];
 
-const NOT_BY_TERM: [(&str, &str, u32); 27] = [
+const NOT_BY_TERM: [(&str, &str, u32); 29] = [
     // No formula, a name of no variable, other sorts.
     ("ZW><z0<z0", "intro z w\ncut z\n", 2),
     ("ZW><z0<z0", "intro z w\ncut q < 0\n", 2),
@@ -439,6 +441,9 @@ const NOT_BY_TERM: [(&str, &str, u32); 27] = [
     ("W><w1<w1", "intro w\ninst 1.1 w\n", 2),
     ("W>Z<z1<w1", "intro w\ninst 1.2 w\n", 2),
     (">ZZ<z1<21", "intro\ninst 1.1 2\ninst 2.1 1\nhyp 3.1\n", 4),
+    (">ZW<zw<12", "intro\ninst 1.1 2 ; 1\nhyp 2.1\n", 3),
+    // More terms than quantifiers.
+    (">ZW<zw<12", "intro\ninst 1.1 1 ; 2 ; 3\n", 2),
 ];
 
 #[test]

@@ -14,7 +14,8 @@ use Rattle.proof_text.specs.ProofTextFile.{Line, passed, heading, step, «end»,
 use Rattle.proof_text.proofs.LineLaw.{IsKind, line_kind, end_is}
 use Rattle.proof_text.proofs.StepLaw.{AreNamed, step_there, step_names}
 use Rattle.proof_text.proofs.NameOrder.{header_names, comment_names, heading_names, end_line_names}
-use Rattle.proof_text.proofs.KeptNames.{each_named, named_parts}
+use Rattle.proof_text.proofs.KeptNames.{each_named}
+use Rattle.proof_text.proofs.TermLists.{named_parts}
 use Rattle.proof_text.proofs.FormRuns.{run_append, said_at, text_key, header, headed_run, form_run}
 
 -- ---- what the lines have, of whatever proofs they are

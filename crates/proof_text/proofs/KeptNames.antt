@@ -17,6 +17,7 @@ use Rattle.proof_text.specs.ProofTextWords.{Each}
 use Rattle.proof_text.specs.ProofTextLines.{text_at}
 use Rattle.proof_text.specs.ProofTextFile.{StepText, ProofText, IsStepOf, IsProofOf, State, start, between, within}
 use Rattle.proof_text.specs.ProofTextReads.{IsStageOf}
+use Rattle.proof_text.proofs.TermLists.{each_map}
 use Rattle.proof_text.proofs.StepLaw.{KeepsTexts, AreNamed, kept_step}
 
 -- ---- tables that grow
@@ -69,16 +70,7 @@ each_named given (text ∷ texts) =
     let there : text_at (with_names (with_name given text) texts) name ≡ Some text = grown_keeps (with_name given text) texts p.0 text p.1 in
     ((name, there), each_named (with_name given text) texts)
 
-pub named_parts : (table xs ys : List (List ℕ)) → AreNamed table (xs ++ ys) → AreNamed table xs × AreNamed table ys
-named_parts table [] ys h = (tt, h)
-named_parts table (x ∷ xs) ys h = let more = named_parts table xs ys h.1 in ((h.0, more.0), more.1)
-
 -- ---- what is said stays said
-
-each_map : {A B : Type 0} (P Q : A → B → Type 0) → ((x : A) (y : B) → P x y → Q x y) → (xs : List A) (ys : List B) → Each P xs ys → Each Q xs ys
-each_map P Q f [] [] h = h
-each_map P Q f (x ∷ xs) (y ∷ ys) h = (f x y h.0, each_map P Q f xs ys h.1)
-each_map P Q f _ _ h = absurd h
 
 module _ (old new : List (List ℕ)) (keeps : KeepsTexts old new) where
   kept_one : (x : StepText) (y : NumberedStep) → IsStepOf old x y → IsStepOf new x y

@@ -13,4 +13,5 @@ pub mod StageLemmas
 pub mod StepLaw
 pub mod StepLemmas
 pub mod TermLines
+pub mod TermLists
 pub mod TwoTerms

@@ -19,10 +19,10 @@ use Rattle.proof_text.specs.ProofTextReads.{Reads, IsHeaded, utf8_of}
 use Rattle.proof_text.proofs.StepLaw.{parts_are}
 use Rattle.proof_text.proofs.StageLemmas.{now}
 
-pub few_words : (words : List (Bor (List ℕ))) (text : List ℕ) → map now words ≡ slice_split (λ b. nat_eq b 32) text → length words ≤ length text + 1
-few_words words text h =
-    let as_many : length (map now words) ≡ length (slice_split (λ b. nat_eq b 32) text) = ap length h in
-    omega (arith, simp length-map at as_many, length-slice_split (λ b. nat_eq b 32) text, count_by-le-length (λ b. nat_eq b 32) text)
+pub few_words : (c : ℕ) (words : List (Bor (List ℕ))) (text : List ℕ) → map now words ≡ slice_split (λ b. nat_eq b c) text → length words ≤ length text + 1
+few_words c words text h =
+    let as_many : length (map now words) ≡ length (slice_split (λ b. nat_eq b c) text) = ap length h in
+    omega (arith, simp length-map at as_many, length-slice_split (λ b. nat_eq b c) text, count_by-le-length (λ b. nat_eq b c) text)
 
 pub utf8_is : {E : Type 0} (bs : List ℕ) (r : Result (Bor (List ℕ)) E) (Q : E → Type 0) → MatchResult r (λ s. (s.now ≡ bs) × IsUtf8 bs) (λ e. (IsUtf8 bs → ⊥) × Q e) → option_copied (result_ok r) ≡ utf8_of bs
 utf8_is bs (Ok x) Q m = let passes = is_utf8-from_IsUtf8 bs m.1 in rw passes (ap Some m.0)

@@ -2,8 +2,6 @@
 use Rattle.std.proofs.Common.{◌≡◌, ℕ, ◌+◌, ◌<◌, ◌≤◌, Bool, true, false, List, [], ◌∷◌, ◌++◌, length, map, take, get_or, codes, Option, Some, None, Result, Ok, Err, subst, refl, sym, ◌∙◌, ap, append_assoc, Bor, ◌||◌, ◌==◌, true≢false}
 use Rattle.std.specs.Prelude.{OnOk}
 use Rattle.std.specs.List.{slice_split}
-use Rattle.std.specs.Option.{option_map}
-use Rattle.logic_term.specs.declared.kinds.Label2.{Label2}
 use Rattle.std.specs.Str.{bytes_eq}
 use Rattle.std.proofs.Math.Dec.{eqb}
 use Rattle.std.proofs.lemmas.List.{take_all, take_more, map-append, append-nil}
@@ -17,8 +15,8 @@ use Rattle.proof_text.specs.declared.rule_words.TermLine.TheVariants.{Rule, Divi
 use Rattle.source_words.specs.Words.{GivesNames, identifiers_in}
 use Rattle.proof_text.specs.ProofTextRules.{term_line_of}
 use Rattle.proof_text.specs.ProofTextReads.{GivesTexts}
-use Rattle.proof_text.specs.ProofTextWords.{two_texts, label_and_text}
-use Rattle.proof_text.specs.ProofTextLines.{rest_of, texts_by, term_behind, NamesInTerm, NamesInTwo, NamesByLine, NamesOfParts, NamesTexts, IsHeading, IsEnd}
+use Rattle.proof_text.specs.ProofTextWords.{two_texts}
+use Rattle.proof_text.specs.ProofTextLines.{rest_of, texts_by, terms_behind, NamesInTerms, NamesInTwo, NamesByLine, NamesOfParts, NamesTexts, IsHeading, IsEnd}
 use Rattle.proof_text.specs.ProofTextFile.{is_passed}
 use Rattle.proof_text.specs.ProofFileForm.{IsComment, LinesName, HasNamesOf}
 use Rattle.proof_text.proofs.LineLaw.{more_before, not_empty, hash_is}
@@ -108,16 +106,9 @@ pub gives_two : (head rest : List ℕ) (own : Option (List ℕ)) (old new : List
 unfolding NamesOfParts
 gives_two head rest own old new e is g = (g.0, subst (λ r. NamesByLine (term_line_of head) head r g.0) (sym is) (subst (λ o. NamesByLine o head (Some rest) g.0) e g.1), g.2)
 
-pub gives_instance : (head rest : List ℕ) (own : Option (List ℕ)) (old new : List (List ℕ)) → Some Instance ≡ term_line_of head → own ≡ Some rest → GivesTexts (NamesInTerm (term_behind (Some rest))) old new → GivesTexts (NamesOfParts head own) old new
+pub gives_instance : (head rest : List ℕ) (own : Option (List ℕ)) (old new : List (List ℕ)) → Some Instance ≡ term_line_of head → own ≡ Some rest → GivesTexts (NamesInTerms (terms_behind (Some rest))) old new → GivesTexts (NamesOfParts head own) old new
 unfolding NamesOfParts
 gives_instance head rest own old new e is g = (g.0, subst (λ r. NamesByLine (term_line_of head) head r g.0) (sym is) (subst (λ o. NamesByLine o head (Some rest) g.0) e g.1), g.2)
-
--- what the term behind a label names
-pub gives_behind : (old new : List (List ℕ)) (rest : List ℕ) (parts : Label2 × List ℕ) → label_and_text rest ≡ Some parts → GivesNames old parts.1 new → GivesTexts (NamesInTerm (term_behind (Some rest))) old new
-gives_behind old new rest parts e g =
-    let texts : List (List ℕ) = identifiers_in parts.1 g.tokens in
-    let names : NamesInTerm (Some parts.1) texts = record { tokens = g.tokens; are_tokens = g.are_tokens; are = refl } in
-    (texts, subst (λ (o : Option (Label2 × List ℕ)). NamesInTerm (option_map (λ (p : Label2 × List ℕ). p.1) o) texts) (sym e) names, g.is)
 
 -- what two terms name, one behind the other
 pub gives_both : (old mid new : List (List ℕ)) (rest : List ℕ) (texts : List ℕ × List ℕ) → two_texts rest ≡ Some texts → GivesNames old texts.0 mid → GivesNames mid texts.1 new → GivesTexts (NamesInTwo (two_texts rest)) old new

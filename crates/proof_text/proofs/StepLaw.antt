@@ -14,7 +14,6 @@ use Rattle.proof_kernel.specs.declared.step.Step.TheVariants.{Intro, Hyp, Split,
 use Rattle.logic_term.specs.declared.kinds.Label2.{Label2}
 use Rattle.source_trees.specs.Pterm.{Pterm}
 use Rattle.term_texts.specs.TermTexts.{SpellsWholeTerm, IsTermText, NamesOfTerm}
-use Rattle.term_texts.proofs.TermChoice.{term_there}
 use Rattle.term_texts.proofs.TermLaw.{is_term_text, spelled_there, names_there as naming_there, one_naming, kept_term, one_term}
 pub use Rattle.term_texts.proofs.TermLaw.{AreNamed, KeepsTexts}
 use Rattle.text_core.specs.Names.{words, HaveOnePlace}
@@ -22,39 +21,14 @@ use Rattle.text_core.specs.declared.name.Name.{Name}
 use Rattle.rs_tokens.specs.Tokens.{is_identifier}
 use Rattle.proof_text.specs.declared.rule_words.TermLine.{TermLine}
 use Rattle.proof_text.specs.declared.rule_words.TermLine.TheVariants.{Rule, Division, Instance}
-use Rattle.proof_text.specs.ProofTextWords.{◌>>=◌, Each, label_of, two_texts, label_and_text}
+use Rattle.proof_text.specs.ProofTextWords.{◌>>=◌, Each, label_of, two_texts, label_and_texts}
 use Rattle.proof_text.specs.ProofTextRules.{rewriting_in, place_in, term_word, term_line_of}
-use Rattle.proof_text.specs.ProofTextLines.{head_of, rest_of, words_of, text_at, case_in, name_listed, name_in_case, multiples_in, word_of, SpellsRest, SpellsParts, SpellsStep, texts_by, term_behind, NamesInTerm, NamesInTwo, NamesByLine, NamesOfParts, NamesTexts}
-use Rattle.proof_text.specs.ProofTextFile.{is_plain_step, is_left, is_term, is_term_rest, are_terms, is_step_by, is_step, step, line_if, line_by_head, line_of, rule_step_of}
+use Rattle.proof_text.specs.ProofTextLines.{head_of, rest_of, words_of, text_at, case_in, name_listed, name_in_case, multiples_in, word_of, SpellsRest, SpellsParts, SpellsStep, texts_by, terms_behind, NamesInTerm, NamesInTerms, NamesInTwo, NamesByLine, NamesOfParts, NamesTexts}
+use Rattle.proof_text.specs.ProofTextFile.{is_plain_step, is_term, is_term_rest, are_terms, are_all_terms, is_step_by, is_step, step, line_if, line_by_head, line_of, rule_step_of}
 use Rattle.proof_text.specs.ProofTextLaws.{AlikeStep}
 use Rattle.proof_text.proofs.LineLaw.{is_plain, text_line}
+use Rattle.proof_text.proofs.TermLists.{term_told, told_term, and_parts, named_parts, term_here, each_map, all_told, terms_here, all_names, once_in_terms, alike_each, each_once}
 use Rattle.proof_text.proofs.RuleLaw.{rule_there, to_labels, hypothesis_step, goal_head, hypothesis_head, pair_head, term_found, term_spelled, rule_part, rule_read}
-
--- ---- a text is a term, or is none
-
-term_told : (text : List ℕ) → IsTermText text → is_term text ≡ true
-unfolding is_term
-term_told text is = by (term_there text)
-  where
-    by : (c : IsTermText text ⊎ (IsTermText text → ⊥)) → is_left c ≡ true
-    by (inl here) = refl
-    by (inr never) = absurd (never is)
-
-told_term : (text : List ℕ) → is_term text ≡ true → IsTermText text
-unfolding is_term
-told_term text e = by (term_there text) e
-  where
-    by : (c : IsTermText text ⊎ (IsTermText text → ⊥)) → is_left c ≡ true → IsTermText text
-    by (inl here) e = here
-    by (inr never) e = absurd (cc)
-
-pub not_told : (text : List ℕ) → (IsTermText text → ⊥) → is_term text ≡ false
-unfolding is_term
-not_told text never = by (term_there text)
-  where
-    by : (c : IsTermText text ⊎ (IsTermText text → ⊥)) → is_left c ≡ false
-    by (inl here) = absurd (never here)
-    by (inr no_term) = refl
 
 -- ---- a spelled step has a line
 
@@ -76,7 +50,7 @@ instance_rest : (table : List (List ℕ)) (rest : Option (List ℕ)) (l : Label2
 unfolding is_step
 instance_rest table rest l ts h =
     ap (λ o. is_step_by o (codes "inst") rest) (term_found Instance)
-    ∙ (ap (λ (o : Option (Label2 × List ℕ)). is_term_rest (option_map (λ (p : Label2 × List ℕ). p.1) o)) h.2 ∙ term_told h.0 (is_term_text table h.0 h.1 h.4))
+    ∙ (ap (λ (o : Option (Label2 × List (List ℕ))). are_all_terms (option_map (λ (p : Label2 × List (List ℕ)). p.1) o)) h.1 ∙ all_told table h.0 ts h.2)
 
 rest_is : (table : List (List ℕ)) (rest : Option (List ℕ)) (s : Step) → SpellsRest table rest s → is_step (word_of s) rest ≡ true
 unfolding is_step is_plain_step term_line_of
@@ -188,20 +162,6 @@ term_line table head (Some text) rule texts e is names named =
     let t = spelled_there table text term (subst (AreNamed table) (one_naming text texts _ names (naming_there text term)) named) in
     (OnTerm rule t.0, (term_spelled head (Rule rule) e, (text, refl, t.1)))
 
-and_parts : (a b : Bool) → (a && b) ≡ true → (a ≡ true) × (b ≡ true)
-and_parts true b e = (refl, e)
-and_parts false b e = absurd (cc)
-
-named_parts : (table one other : List (List ℕ)) → AreNamed table (one ++ other) → AreNamed table one × AreNamed table other
-named_parts table [] other h = (tt, h)
-named_parts table (text ∷ one) other h = let rest = named_parts table one other h.1 in ((h.0, rest.0), rest.1)
-
--- the term of a text whose names have names in the table
-term_here : (table : List (List ℕ)) (text : List ℕ) (texts : List (List ℕ)) → is_term text ≡ true → NamesOfTerm text texts → AreNamed table texts → (t : Pterm) × SpellsWholeTerm table text t
-term_here table text texts is names named =
-    let term : IsTermText text = told_term text is in
-    spelled_there table text term (subst (AreNamed table) (one_naming text texts _ names (naming_there text term)) named)
-
 two_line : (table : List (List ℕ)) (head : List ℕ) (rest : Option (List ℕ)) (o : Option (List ℕ × List ℕ)) (texts : List (List ℕ)) → (rest >>= two_texts) ≡ o → head ≡ codes "div" → are_terms o ≡ true → NamesInTwo o texts →
     AreNamed table texts → Spelled table head rest
 two_line table head rest None texts e w is names named = absurd (cc)
@@ -212,19 +172,19 @@ two_line table head rest (Some both) texts e w is names named =
     let second = term_here table both.1 names.1 parts.1 names.3 have.1 in
     (Divide first.0 second.0, (w, (both, e, first.1, second.1)))
 
-instance_line : (table : List (List ℕ)) (head : List ℕ) (rest : Option (List ℕ)) (o : Option (Label2 × List ℕ)) (texts : List (List ℕ)) → (rest >>= label_and_text) ≡ o → head ≡ codes "inst" →
-    is_term_rest (option_map (λ (p : Label2 × List ℕ). p.1) o) ≡ true → NamesInTerm (option_map (λ (p : Label2 × List ℕ). p.1) o) texts → AreNamed table texts → Spelled table head rest
+instance_line : (table : List (List ℕ)) (head : List ℕ) (rest : Option (List ℕ)) (o : Option (Label2 × List (List ℕ))) (texts : List (List ℕ)) → (rest >>= label_and_texts) ≡ o → head ≡ codes "inst" →
+    are_all_terms (option_map (λ (p : Label2 × List (List ℕ)). p.1) o) ≡ true → NamesInTerms (option_map (λ (p : Label2 × List (List ℕ)). p.1) o) texts → AreNamed table texts → Spelled table head rest
 instance_line table head rest None texts e w is names named = absurd (cc)
 instance_line table head rest (Some parts) texts e w is names named =
-    let t = term_here table parts.1 texts is names named in
-    (Instantiate parts.0 (t.0 ∷ []), (w, (parts.1, t.0, e, refl, t.1)))
+    let ts = terms_here table parts.1 texts is names named in
+    (Instantiate parts.0 ts.0, (w, (parts.1, e, ts.1)))
 
 by_line : (table : List (List ℕ)) (head : List ℕ) (rest : Option (List ℕ)) (texts : List (List ℕ)) (o : Option TermLine) → term_line_of head ≡ o → is_step_by o head rest ≡ true → NamesByLine o head rest texts → AreNamed table texts →
     Spelled table head rest
 by_line table head rest texts None e is names named = plain_there table head rest is (subst (AreNamed table) names named)
 by_line table head rest texts (Some (Rule rule)) e is names named = term_line table head rest rule texts e is names named
 by_line table head rest texts (Some Division) e is names named = two_line table head rest (rest >>= two_texts) texts refl (term_spelled head Division e) is names named
-by_line table head rest texts (Some Instance) e is names named = instance_line table head rest (rest >>= label_and_text) texts refl (term_spelled head Instance e) is names named
+by_line table head rest texts (Some Instance) e is names named = instance_line table head rest (rest >>= label_and_texts) texts refl (term_spelled head Instance e) is names named
 
 parts_there : (table : List (List ℕ)) (head : List ℕ) (rest : Option (List ℕ)) (texts : List (List ℕ)) → is_step head rest ≡ true → NamesOfParts head rest texts → AreNamed table texts → Spelled table head rest
 unfolding is_step NamesOfParts
@@ -249,7 +209,7 @@ names_by : (head : List ℕ) (rest : Option (List ℕ)) (o : Option TermLine) �
 names_by head rest None is = (texts_by head rest, refl)
 names_by head rest (Some (Rule rule)) is = term_names rest is
 names_by head rest (Some Division) is = two_names (rest >>= two_texts) is
-names_by head rest (Some Instance) is = term_names (term_behind rest) is
+names_by head rest (Some Instance) is = all_names (terms_behind rest) is
 
 pub step_names : (text : List ℕ) → is_step (head_of text) (rest_of text) ≡ true → (texts : List (List ℕ)) × NamesTexts text texts
 unfolding is_step NamesOfParts
@@ -268,7 +228,7 @@ once_by : (head : List ℕ) (rest : Option (List ℕ)) (o : Option TermLine) (on
 once_by head rest None one other a b = a ∙ sym b
 once_by head rest (Some (Rule rule)) one other a b = once_in_term rest one other a b
 once_by head rest (Some Division) one other a b = once_in_two (rest >>= two_texts) one other a b
-once_by head rest (Some Instance) one other a b = once_in_term (term_behind rest) one other a b
+once_by head rest (Some Instance) one other a b = once_in_terms (terms_behind rest) one other a b
 
 -- a line names one list of texts
 pub line_names_once : (text : List ℕ) (one other : List (List ℕ)) → NamesTexts text one → NamesTexts text other → one ≡ other
@@ -292,7 +252,7 @@ module _ (old new : List (List ℕ)) (keeps : KeepsTexts old new) where
   kept_rest rest (Intro names) h = (h.0, kept_names names (words_of rest) h.1)
   kept_rest rest (OnTerm r t) h = (h.0, h.1, kept_term old new keeps h.0 t h.2)
   kept_rest rest (Divide t u) h = (h.0, h.1, kept_term old new keeps h.0.0 t h.2, kept_term old new keeps h.0.1 u h.3)
-  kept_rest rest (Instantiate l ts) h = (h.0, h.1, h.2, h.3, kept_term old new keeps h.0 h.1 h.4)
+  kept_rest rest (Instantiate l ts) h = (h.0, h.1, each_map (SpellsWholeTerm old) (SpellsWholeTerm new) (kept_term old new keeps) h.0 ts h.2)
   kept_rest rest (Unpack l x) h = (h.0, h.1, keeps x.0 h.0 h.2)
   kept_rest rest _ h = h
 
@@ -300,9 +260,6 @@ module _ (old new : List (List ℕ)) (keeps : KeepsTexts old new) where
   kept_step text s h = (h.0, (h.1.0, kept_rest (rest_of text) s h.1.1))
 
 -- ---- a line spells one step
-
-same_pair : (p q : Label2 × List ℕ) → Some p ≡ Some q → p ≡ q
-same_pair p q e = cc
 
 same_found : {A : Type 0} (p q : Label2 × A) → Some p ≡ Some q → p ≡ q
 same_found p q e = cc
@@ -327,11 +284,10 @@ module _ (table other : List (List ℕ)) (rest : Option (List ℕ)) where
 
   alike_instance : (l m : Label2) (ts us : List Pterm) → SpellsRest table rest (Instantiate l ts) → SpellsRest other rest (Instantiate m us) → (l ≡ m) × Each AlikeTerm ts us
   alike_instance l m ts us h k =
-      let pair : (l, h.0) ≡ (m, k.0) = same_pair (l, h.0) (m, k.0) (sym h.2 ∙ k.2) in
-      let label : l ≡ m = ap (λ (p : Label2 × List ℕ). p.0) pair in
-      let text : k.0 ≡ h.0 = sym (ap (λ (p : Label2 × List ℕ). p.1) pair) in
-      let term : AlikeTerm h.1 k.1 = (h.0, h.4, subst (λ (x : List ℕ). SpellsWholeTerm other x k.1) text k.4) in
-      (label, subst (λ (xs : List Pterm). Each AlikeTerm xs us) (sym h.3) (subst (λ (xs : List Pterm). Each AlikeTerm (h.1 ∷ []) xs) (sym k.3) (term, tt)))
+      let pair : (l, h.0) ≡ (m, k.0) = same_found {A = List (List ℕ)} (l, h.0) (m, k.0) (sym h.1 ∙ k.1) in
+      let label : l ≡ m = ap (λ (p : Label2 × List (List ℕ)). p.0) pair in
+      let texts : k.0 ≡ h.0 = sym (ap (λ (p : Label2 × List (List ℕ)). p.1) pair) in
+      (label, alike_each table other h.0 ts us h.2 (subst (λ (xs : List (List ℕ)). Each (SpellsWholeTerm other) xs us) texts k.2))
 
   alike_rest : (s t : Step) → bytes_eq (word_of s) (word_of t) ≡ true → rule_part s ≡ rule_part t → SpellsRest table rest s → SpellsRest other rest t → AlikeStep table other s t
   alike_rest (Intro ms) (Intro ns) e r h k = h.1 ∙ sym k.1
@@ -420,11 +376,10 @@ module _ (table : List (List ℕ)) (place : HaveOnePlace (words ++ table)) where
       let second : u ≡ w = one_term table place e.1.0 u w e.1.1 e.1.2 in
       cc
   rest_once rest (Instantiate l ts) (Instantiate m us) e h k =
-      let pair : (l, h.0) ≡ (m, k.0) = same_pair (l, h.0) (m, k.0) (sym h.2 ∙ k.2) in
-      let label : l ≡ m = ap (λ (p : Label2 × List ℕ). p.0) pair in
-      let text : k.0 ≡ h.0 = sym (ap (λ (p : Label2 × List ℕ). p.1) pair) in
-      let term : h.1 ≡ k.1 = one_term table place h.0 h.1 k.1 h.4 (subst (λ (x : List ℕ). SpellsWholeTerm table x k.1) text k.4) in
-      let terms : ts ≡ us = h.3 ∙ (ap (λ (t : Pterm). t ∷ []) term ∙ sym k.3) in
+      let pair : (l, h.0) ≡ (m, k.0) = same_found {A = List (List ℕ)} (l, h.0) (m, k.0) (sym h.1 ∙ k.1) in
+      let label : l ≡ m = ap (λ (p : Label2 × List (List ℕ)). p.0) pair in
+      let texts : k.0 ≡ h.0 = sym (ap (λ (p : Label2 × List (List ℕ)). p.1) pair) in
+      let terms : ts ≡ us = each_once table place h.0 ts us h.2 (subst (λ (xs : List (List ℕ)). Each (SpellsWholeTerm table) xs us) texts k.2) in
       cc
   rest_once rest _ _ e h k = absurd e
 

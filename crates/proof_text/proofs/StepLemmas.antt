@@ -43,23 +43,23 @@ one_more old new names texts i d name h k e r =
     ∙ ap (map Some) (sym (map-append now (take i texts) (get_or texts i d ∷ [])))
     ∙ ap (λ ts. map Some (map now ts)) (sym (take_more texts i d h))
 
-abbrev pub with_front : List Multiple → Option (List Multiple) → Option (List Multiple)
+abbrev pub with_front : {A : Type 0} → List A → Option (List A) → Option (List A)
 with_front front None = None
-with_front front (Some ms) = Some (front ++ ms)
+with_front front (Some xs) = Some (front ++ xs)
 
-pub front_of_none : (o : Option (List Multiple)) → with_front [] o ≡ o
+pub front_of_none : {A : Type 0} (o : Option (List A)) → with_front [] o ≡ o
 front_of_none None = refl
-front_of_none (Some ms) = refl
+front_of_none (Some xs) = refl
 
-next_multiple : (front : List Multiple) (m : Multiple) (o : Option (List Multiple)) → with_front front (o >>= (λ ms. Some (m ∷ ms))) ≡ with_front (front ++ m ∷ []) o
-next_multiple front m None = refl
-next_multiple front m (Some ms) = ap Some (sym (append_assoc front (m ∷ []) ms))
+next_one : {A : Type 0} (front : List A) (x : A) (o : Option (List A)) → with_front front (o >>= (λ xs. Some (x ∷ xs))) ≡ with_front (front ++ x ∷ []) o
+next_one front x None = refl
+next_one front x (Some xs) = ap Some (sym (append_assoc front (x ∷ []) xs))
 
 pub multiples_go_on : (front : List Multiple) (words : List (Bor (List ℕ))) (i : ℕ) (d : Bor (List ℕ)) (m : Multiple) → i < length words → multiple_of (now (get_or words i d)) ≡ Some m →
     with_front front (multiples_of (map now (drop i words))) ≡ with_front (front ++ m ∷ []) (multiples_of (map now (drop (i + 1) words)))
 multiples_go_on front words i d m h e =
     ap (λ ws. with_front front (multiples_of (map now ws))) (drop-cons words i d h)
-    ∙ rw e (next_multiple front m (multiples_of (map now (drop (suc i) words))))
+    ∙ rw e (next_one front m (multiples_of (map now (drop (suc i) words))))
     ∙ ap (λ j. with_front (front ++ m ∷ []) (multiples_of (map now (drop j words)))) (sym (add-one i))
 
 pub multiples_stop : (front : List Multiple) (words : List (Bor (List ℕ))) (i : ℕ) (d : Bor (List ℕ)) → i < length words → multiple_of (now (get_or words i d)) ≡ None → with_front front (multiples_of (map now (drop i words))) ≡ None

@@ -10,8 +10,8 @@ use Rattle.source_words.specs.Words.{GivesNames}
 use Rattle.proof_text.specs.declared.fault.Fault.{Fault}
 use Rattle.proof_text.specs.declared.fault.Fault.TheVariants.{Bad}
 use Rattle.proof_text.specs.ProofTextRules.{term_word, term_line_of}
-use Rattle.proof_text.specs.ProofTextLines.{SpellsRest, SpellsParts, texts_by, term_behind, NamesInTerm, NamesInTwo, NamesOfParts}
-use Rattle.proof_text.specs.ProofTextFile.{is_plain_step, is_term, is_term_rest, are_terms, is_step_by, is_step}
+use Rattle.proof_text.specs.ProofTextLines.{SpellsRest, SpellsParts, texts_by, terms_behind, NamesInTerms, NamesInTwo, NamesOfParts}
+use Rattle.proof_text.specs.ProofTextFile.{is_plain_step, is_term, is_term_rest, are_terms, are_all_terms, is_step_by, is_step}
 use Rattle.proof_text.specs.ProofTextReads.{GivesTexts}
 use Rattle.proof_text.specs.ProofTextWords.{◌>>=◌, two_texts}
 use Rattle.proof_text.proofs.RuleLaw.{term_spelled}
@@ -74,22 +74,22 @@ module _ (head : List ℕ) (own : Option (List ℕ)) where
       two_table old new (Ok s) h = gives_two head rest own old new e is h
       two_table old new (Err f) h = tt
 
-  -- ---- of a term behind a label
+  -- ---- of terms behind a label
 
   module _ (e : Some Instance ≡ term_line_of head) where
     pub missing_instance : own ≡ None → is_step head own ≡ false
     unfolding is_step
-    missing_instance none = ap (λ o. is_step_by o head own) (sym e) ∙ ap (λ (o : Option (List ℕ)). is_term_rest (term_behind o)) none
+    missing_instance none = ap (λ o. is_step_by o head own) (sym e) ∙ ap (λ (o : Option (List ℕ)). are_all_terms (terms_behind o)) none
 
     module _ (rest : List ℕ) (is : own ≡ Some rest) where
       pub instance_said : (table : List (List ℕ)) (r : Result Step Fault) → IfOk r (λ s. SpellsParts table (codes "inst") (Some rest) s) → IfOk r (λ s. SpellsParts table head own s)
       instance_said table (Ok s) h = (term_spelled head Instance (sym e) ∙ h.0, subst (λ (o : Option (List ℕ)). SpellsRest table o s) (sym is) h.1)
       instance_said table (Err f) h = tt
 
-      pub instance_bad : is_term_rest (term_behind (Some rest)) ≡ false → is_step head own ≡ false
+      pub instance_bad : are_all_terms (terms_behind (Some rest)) ≡ false → is_step head own ≡ false
       unfolding is_step
-      instance_bad h = ap (λ o. is_step_by o head own) (sym e) ∙ (ap (λ (o : Option (List ℕ)). is_term_rest (term_behind o)) is ∙ h)
+      instance_bad h = ap (λ o. is_step_by o head own) (sym e) ∙ (ap (λ (o : Option (List ℕ)). are_all_terms (terms_behind o)) is ∙ h)
 
-      pub instance_table : (old new : List (List ℕ)) (r : Result Step Fault) → OnOk r (GivesTexts (NamesInTerm (term_behind (Some rest))) old new) → OnOk r (GivesTexts (NamesOfParts head own) old new)
+      pub instance_table : (old new : List (List ℕ)) (r : Result Step Fault) → OnOk r (GivesTexts (NamesInTerms (terms_behind (Some rest))) old new) → OnOk r (GivesTexts (NamesOfParts head own) old new)
       instance_table old new (Ok s) h = gives_instance head rest own old new e is h
       instance_table old new (Err f) h = tt

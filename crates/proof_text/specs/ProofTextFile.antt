@@ -16,7 +16,7 @@ use Rattle.proof_text.specs.declared.rule_words.TermLine.{TermLine}
 use Rattle.proof_text.specs.declared.rule_words.TermLine.TheVariants.{Rule, Division, Instance}
 use Rattle.term_texts.proofs.TermChoice.{term_there}
 use Rattle.proof_text.specs.ProofTextRules.{labels_in, rewriting_in, place_in, goal_rule_of, hypothesis_rule_of, pair_rule_of, term_line_of}
-use Rattle.proof_text.specs.ProofTextLines.{head_of, rest_of, words_of, case_in, multiples_in, heading_of, term_behind, SpellsStep}
+use Rattle.proof_text.specs.ProofTextLines.{head_of, rest_of, words_of, case_in, multiples_in, heading_of, terms_behind, SpellsStep}
 pub use Rattle.proof_text.specs.ProofFileForm.{SpellsProofs, HasNamesOf, IsFirstBadLine}
 
 -- ---- lines
@@ -59,12 +59,16 @@ abbrev pub are_terms : Option (List ℕ × List ℕ) → Bool
 are_terms None = false
 are_terms (Some texts) = is_term texts.0 && is_term texts.1
 
+abbrev pub are_all_terms : Option (List (List ℕ)) → Bool
+are_all_terms None = false
+are_all_terms (Some texts) = list_all is_term texts
+
 -- some step has such a line, of this kind of lines with terms or of none
 abbrev pub is_step_by : Option TermLine → List ℕ → Option (List ℕ) → Bool
 is_step_by None head rest = is_plain_step head rest
 is_step_by (Some (Rule rule)) head rest = is_term_rest rest
 is_step_by (Some Division) head rest = are_terms (rest >>= two_texts)
-is_step_by (Some Instance) head rest = is_term_rest (term_behind rest)
+is_step_by (Some Instance) head rest = are_all_terms (terms_behind rest)
 
 unfoldable pub is_step : List ℕ → Option (List ℕ) → Bool
 is_step head rest = is_step_by (term_line_of head) head rest

@@ -7,14 +7,13 @@ use Rattle.std.specs.List.{list_all, slice_split, before_first}
 use Rattle.std.specs.Option.{option_map}
 use Rattle.std.specs.Str.{bytes_eq, is_utf8}
 use Rattle.logic_term.specs.declared.kinds.Label2.{Label2}
-use Rattle.source_trees.specs.Pterm.{Pterm}
 use Rattle.proof_kernel.specs.declared.step.Multiple.{Multiple}
 use Rattle.proof_kernel.specs.declared.step.Step.{Step}
 use Rattle.proof_kernel.specs.declared.step.Step.TheVariants.{Intro, Hyp, Split, Lin, OnGoal, OnHypothesis, OnTwo, Rewrite, Decide, OnTerm, Divide, Instantiate, Unpack, ByVariants, Induct}
 use Rattle.rs_tokens.specs.Tokens.{is_identifier}
 use Rattle.proof_text.specs.declared.rule_words.TermLine.{TermLine}
 use Rattle.proof_text.specs.declared.rule_words.TermLine.TheVariants.{Rule, Division, Instance}
-use Rattle.proof_text.specs.ProofTextWords.{◌>>=◌, number_of, label_of, multiple_of, cut, two_texts, label_and_text}
+use Rattle.proof_text.specs.ProofTextWords.{◌>>=◌, number_of, label_of, Each, multiple_of, cut, two_texts, label_and_texts}
 use Rattle.proof_text.specs.ProofTextRules.{goal_word, hypothesis_word, pair_word, term_word, labels_in, rewriting_in, place_in, term_line_of}
 use Rattle.term_texts.specs.TermTexts.{SpellsWholeTerm, NamesOfTerm}
 pub use Rattle.term_texts.specs.TermTexts.{text_at}
@@ -96,7 +95,7 @@ SpellsRest table rest (Rewrite rewriting) = (rest >>= rewriting_in) ≡ Some rew
 SpellsRest table rest (Decide label target) = (rest >>= place_in) ≡ Some (label, target)
 SpellsRest table rest (OnTerm rule t) = (text : List ℕ) × (rest ≡ Some text) × SpellsWholeTerm table text t
 SpellsRest table rest (Divide t u) = (texts : List ℕ × List ℕ) × ((rest >>= two_texts) ≡ Some texts) × SpellsWholeTerm table texts.0 t × SpellsWholeTerm table texts.1 u
-SpellsRest table rest (Instantiate label ts) = (text : List ℕ) × (t : Pterm) × ((rest >>= label_and_text) ≡ Some (label, text)) × (ts ≡ t ∷ []) × SpellsWholeTerm table text t
+SpellsRest table rest (Instantiate label ts) = (texts : List (List ℕ)) × ((rest >>= label_and_texts) ≡ Some (label, texts)) × Each (SpellsWholeTerm table) texts ts
 SpellsRest table rest (Unpack label name) = (text : List ℕ) × ((rest >>= case_in) ≡ Some (label, Some text)) × (text_at table name ≡ Some text)
 -- no line has these yet
 SpellsRest table rest (ByVariants t names) = ⊥
@@ -131,9 +130,18 @@ abbrev pub NamesInTerm : Option (List ℕ) → List (List ℕ) → Type 0
 NamesInTerm None texts = texts ≡ []
 NamesInTerm (Some rest) texts = NamesOfTerm rest texts
 
--- the term behind a label
-abbrev pub term_behind : Option (List ℕ) → Option (List ℕ)
-term_behind rest = option_map (λ (parts : Label2 × List ℕ). parts.1) (rest >>= label_and_text)
+-- the terms behind a label
+abbrev pub terms_behind : Option (List ℕ) → Option (List (List ℕ))
+terms_behind rest = option_map (λ (parts : Label2 × List (List ℕ)). parts.1) (rest >>= label_and_texts)
+
+-- those of each term, in order
+abbrev pub NamesInEach : List (List ℕ) → List (List ℕ) → Type 0
+NamesInEach [] texts = texts ≡ []
+NamesInEach (term ∷ terms) texts = (own others : List (List ℕ)) × NamesOfTerm term own × NamesInEach terms others × (texts ≡ own ++ others)
+
+abbrev pub NamesInTerms : Option (List (List ℕ)) → List (List ℕ) → Type 0
+NamesInTerms None texts = texts ≡ []
+NamesInTerms (Some terms) texts = NamesInEach terms texts
 
 -- those of the first term, and then those of the second
 abbrev pub NamesInTwo : Option (List ℕ × List ℕ) → List (List ℕ) → Type 0
@@ -145,7 +153,7 @@ abbrev pub NamesByLine : Option TermLine → List ℕ → Option (List ℕ) → 
 NamesByLine None head rest texts = texts ≡ texts_by head rest
 NamesByLine (Some (Rule rule)) head rest texts = NamesInTerm rest texts
 NamesByLine (Some Division) head rest texts = NamesInTwo (rest >>= two_texts) texts
-NamesByLine (Some Instance) head rest texts = NamesInTerm (term_behind rest) texts
+NamesByLine (Some Instance) head rest texts = NamesInTerms (terms_behind rest) texts
 
 unfoldable pub NamesOfParts : List ℕ → Option (List ℕ) → List (List ℕ) → Type 0
 NamesOfParts head rest texts = NamesByLine (term_line_of head) head rest texts

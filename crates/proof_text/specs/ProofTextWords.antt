@@ -1,7 +1,7 @@
 -- What the words of a proof file spell.
 use Rattle.std.specs.Prelude.{ℕ, ℤ, pos, neg_ℤ, ◌+◌, ◌^◌, List, [], ◌∷◌, length, drop, codes, Bool, ◌&&◌, Option, None, Some, slice_index, nat_lt, ◌==◌, if◌then◌else◌}
 use Rattle.std.specs.Char.{is_ascii_digit}
-use Rattle.std.specs.List.{list_all, position_or_len, before_first, after_first}
+use Rattle.std.specs.List.{list_all, slice_split, position_or_len, before_first, after_first}
 use Rattle.std.specs.Option.{option_map}
 use Rattle.std.specs.Str.{bytes_eq}
 use Rattle.std.specs.Str.Parse.{digits_value}
@@ -73,6 +73,29 @@ two_texts rest = do
   second ← behind_space parts.1
   Some (first, second)
 
+-- what stands before and behind a semicolon, without the space on each side of it
+abbrev pub at_semicolon : List ℕ → List ℕ → Option (List ℕ × List ℕ)
+at_semicolon front back = do
+  first ← before_space front
+  second ← behind_space back
+  Some (first, second)
+
+-- the text, and those behind it, of which each piece but the text still has the semicolon's space before it
+abbrev pub texts_from : List ℕ → List (List ℕ) → Option (List (List ℕ))
+texts_from text [] = Some (text ∷ [])
+texts_from text (piece ∷ pieces) = do
+  ends ← at_semicolon text piece
+  others ← texts_from ends.1 pieces
+  Some (ends.0 ∷ others)
+
+abbrev pub texts_of : List (List ℕ) → Option (List (List ℕ))
+texts_of [] = None
+texts_of (piece ∷ pieces) = texts_from piece pieces
+
+-- one text or more: each semicolon has one space before it and one behind it, and stands between two of them
+unfoldable pub texts_in : List ℕ → Option (List (List ℕ))
+texts_in text = texts_of (slice_split (λ b. b == 59) text)
+
 -- `S.P`: two numbers with a point between
 unfoldable pub label_of : List ℕ → Option Label2
 label_of word = do
@@ -87,6 +110,13 @@ label_and_text rest = do
   parts ← cut 32 rest
   label ← label_of parts.0
   Some (label, parts.1)
+
+-- a label, and behind one space one text or more
+unfoldable pub label_and_texts : List ℕ → Option (Label2 × List (List ℕ))
+label_and_texts rest = do
+  parts ← label_and_text rest
+  texts ← texts_in parts.1
+  Some (parts.0, texts)
 
 -- `goal`, a label, or `-` and a label
 unfoldable pub reference_of : List ℕ → Option Reference

@@ -62,7 +62,7 @@ pub(crate) enum TermLine {
     Rule(TermRule),
     /// Two terms: what is divided, and by what.
     Division,
-    /// A label, and one term.
+    /// A label, and one term or more.
     Instance,
 }
 

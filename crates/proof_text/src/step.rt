@@ -7,14 +7,14 @@ ghost use Rattle.rs_tokens.specs.Tokens.{is_identifier};
 ghost use Rattle.source_words.specs.Words.{GivesNames};
 ghost use Rattle.term_texts.specs.TermTexts.{SpellsWholeTerm};
 ghost use Rattle.proof_text.specs.ProofTextRules.{term_word};
-ghost use Rattle.proof_text.specs.ProofTextLines.{words_of, multiples_of, multiples_in, SpellsParts, text_at, case_in, name_in_case, texts_by, term_behind, NamesInTerm, NamesInTwo, NamesOfParts};
-ghost use Rattle.proof_text.specs.ProofTextFile.{is_plain_step, is_term, is_term_rest, are_terms, is_step};
-ghost use Rattle.proof_text.specs.ProofTextWords.{two_texts};
-ghost use Rattle.proof_text.specs.ProofTextReads.{Reads, KeepsNames, GivesTexts, room_of};
+ghost use Rattle.proof_text.specs.ProofTextLines.{words_of, multiples_of, multiples_in, SpellsParts, text_at, case_in, name_in_case, texts_by, terms_behind, NamesInTerms, NamesInEach, NamesInTwo, NamesOfParts};
+ghost use Rattle.proof_text.specs.ProofTextFile.{is_plain_step, is_term, are_terms, are_all_terms, is_step};
+ghost use Rattle.proof_text.specs.ProofTextWords.{Each, two_texts, texts_of, texts_in, label_and_texts};
+ghost use Rattle.proof_text.specs.ProofTextReads.{Reads, KeepsNames, GivesTexts, room_of, total_length};
 
 use crate::fault::Fault;
 use crate::rule_words::{TermLine, place, rewriting, rule_step, term_line};
-use crate::word::{cut, label, label_and_text, multiple, two_texts};
+use crate::word::{at_semicolon, cut, label, label_and_text, multiple, two_texts};
 use logic_term::Label2;
 use proof_kernel::{HypothesisRule, Multiple, Step, TermRule};
 use rs_tokens::is_identifier;
@@ -23,12 +23,13 @@ use std::alloc::Global;
 use term_texts::{TermFault, read_whole_term};
 use text_core::{Items, Name, Names, NoMemory};
 
-/// The words between single spaces.
-fn split_words(alloc: Global, text: &str) -> Result<Vec<&str>, NoMemory>
-    ensures words { IfOk result (λ words. map (λ word. word.now) words.items ≡ slice_split (λ b. b == 32) text.now) }
+/// What stands between such characters.
+fn split_text(alloc: Global, text: &str, at: char) -> Result<Vec<&str>, NoMemory>
+    requires { at < 128 }
+    ensures words { IfOk result (λ words. map (λ word. word.now) words.items ≡ slice_split (λ b. b == at) text.now) }
     ensures count { IfOk result (λ words. length words.items ≤ length text.now + 1) }
 {
-    Ok(text.split(' ').collect(alloc)?)
+    Ok(text.split(at).collect(alloc)?)
 }
 
 /// The words of a line's rest.
@@ -37,7 +38,7 @@ fn words<'a>(alloc: Global, rest: Option<&'a str>) -> Result<Vec<&'a str>, NoMem
     ensures count { IfOk result (λ words. length words.items ≤ room_of (option_copied rest.entry)) }
 {
     match rest {
-        Some(rest) => split_words(alloc, rest),
+        Some(rest) => split_text(alloc, rest, ' '),
         None => Ok(Vec::new(alloc)),
     }
 }
@@ -77,7 +78,7 @@ fn multiples(alloc: Global, words: &[&str]) -> Result<Items<Multiple>, Fault>
 fn lin(alloc: Global, rest: &str) -> Result<Items<Multiple>, Fault>
     ensures { Reads (λ said read. said ≡ read) result (multiples_in rest.now) }
 {
-    let words = split_words(alloc, rest)?;
+    let words = split_text(alloc, rest, ' ')?;
     multiples(alloc, &words)
 }
 
@@ -138,26 +139,68 @@ fn division(alloc: Global, rest: &str, names: &mut Names) -> Result<Step, Fault>
     Ok(Step::Divide(divided, divisor))
 }
 
-fn one_term(alloc: Global, term: Pterm) -> Result<Items<Pterm>, Fault>
-    ensures one { IfOk result (λ ts. ts ≡ term ∷ []) }
-    ensures bad { IsErrOf result Fault.Bad → ⊥ }
+/// The texts that the pieces between semicolons make.
+fn texts_of<'a>(alloc: Global, pieces: &[&'a str]) -> Result<Vec<&'a str>, Fault>
+    ensures { Reads (λ said texts. said ≡ map (λ text. text.now) texts.items) result (texts_of (map (λ piece. piece.now) pieces.now)) }
+{
+    let Some((first, others)) = pieces.split_first() else {
+        return Err(Fault::Bad);
+    };
+    let mut texts = Vec::new(alloc);
+    let mut last = *first;
+    for piece in others {
+        let (text, next) = at_semicolon(last, *piece).ok_or(Fault::Bad)?;
+        texts.push(text)?;
+        last = next;
+    }
+    texts.push(last)?;
+    Ok(texts)
+}
+
+/// One text or more, with ` ; ` between.
+#[tactic(auto, unfolding(crate::specs::ProofTextWords::texts_in))]
+fn texts_in(alloc: Global, text: &str) -> Result<Vec<&str>, Fault>
+    ensures { Reads (λ said texts. said ≡ map (λ text. text.now) texts.items) result (texts_in text.now) }
+{
+    let pieces = split_text(alloc, text, ';')?;
+    texts_of(alloc, &pieces)
+}
+
+/// A label, and one text or more.
+#[tactic(auto, unfolding(crate::specs::ProofTextWords::label_and_texts))]
+fn label_and_texts(alloc: Global, rest: &str) -> Result<(Label2, Vec<&str>), Fault>
+    ensures { Reads (λ said found. (said.0 ≡ found.0) × (said.1 ≡ map (λ text. text.now) found.1.items)) result (label_and_texts rest.now) }
+{
+    let (label, text) = label_and_text(rest).ok_or(Fault::Bad)?;
+    let texts = texts_in(alloc, text)?;
+    Ok((label, texts))
+}
+
+/// The terms of the texts.
+fn terms(alloc: Global, texts: &[&str], names: &mut Names) -> Result<Items<Pterm>, Fault>
+    ensures said { IfOk result (λ ts. Each (SpellsWholeTerm names.new) (map (λ text. text.now) texts.now) ts) }
+    ensures bad { IsErrOf result Fault.Bad → list_all is_term (map (λ text. text.now) texts.now) ≡ false }
+    ensures table { OnOk result (GivesTexts (NamesInEach (map (λ text. text.now) texts.now)) names.old names.new) }
+    ensures kept { KeepsNames names.old names.new }
+    ensures grown { length names.new ≤ length names.old + total_length (map (λ text. text.now) texts.now) }
 {
     let mut terms = Vec::new(alloc);
-    terms.push(term)?;
+    for text in texts {
+        terms.push(whole_term(alloc, *text, names)?)?;
+    }
     Ok(Items::from_vec(terms))
 }
 
-/// `LABEL TERM`
+/// `LABEL TERM ; ..`
 fn instance(alloc: Global, rest: &str, names: &mut Names) -> Result<Step, Fault>
     ensures said { IfOk result (λ step. SpellsParts names.new (codes "inst") (Some rest.now) step) }
-    ensures bad { IsErrOf result Fault.Bad → is_term_rest (term_behind (Some rest.now)) ≡ false }
-    ensures table { OnOk result (GivesTexts (NamesInTerm (term_behind (Some rest.now))) names.old names.new) }
+    ensures bad { IsErrOf result Fault.Bad → are_all_terms (terms_behind (Some rest.now)) ≡ false }
+    ensures table { OnOk result (GivesTexts (NamesInTerms (terms_behind (Some rest.now))) names.old names.new) }
     ensures kept { KeepsNames names.old names.new }
     ensures grown { length names.new ≤ length names.old + length rest.now }
 {
-    let (label, text) = label_and_text(rest).ok_or(Fault::Bad)?;
-    let term = whole_term(alloc, text, names)?;
-    let terms = one_term(alloc, term)?;
+    let (label, texts) = label_and_texts(alloc, rest)?;
+    let terms = terms(alloc, &texts, names)?;
     Ok(Step::Instantiate(label, terms))
 }
 

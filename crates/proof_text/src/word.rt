@@ -3,7 +3,7 @@ ghost use Rattle.std.specs.Char.{is_ascii_digit};
 ghost use Rattle.std.specs.List.{list_all};
 ghost use Rattle.std.specs.Option.{option_map, option_copied};
 ghost use Rattle.proof_text.specs.ProofTextRules.{labels_in};
-ghost use Rattle.proof_text.specs.ProofTextWords.{is_numeral, number_of, multiplier_of, cut, after_minus, label_of, reference_of, multiple_of, before_space, behind_space, two_texts, label_and_text};
+ghost use Rattle.proof_text.specs.ProofTextWords.{is_numeral, number_of, multiplier_of, cut, after_minus, label_of, reference_of, multiple_of, before_space, behind_space, two_texts, at_semicolon, label_and_text};
 
 use logic_term::Label2;
 use proof_kernel::{Multiple, Reference};
@@ -87,6 +87,15 @@ pub(crate) fn two_texts(rest: &str) -> Option<(&str, &str)>
     let (first, second) = cut(rest, ';')?;
     let first = before_space(first)?;
     let second = behind_space(second)?;
+    Some((first, second))
+}
+
+/// What stands before and behind a semicolon, without the space on each side of it.
+pub(crate) fn at_semicolon<'a>(front: &'a str, back: &'a str) -> Option<(&'a str, &'a str)>
+    ensures { option_map (λ parts. (parts.0.now, parts.1.now)) result ≡ at_semicolon front.now back.now }
+{
+    let first = before_space(front)?;
+    let second = behind_space(back)?;
     Some((first, second))
 }
 

@@ -1,6 +1,6 @@
 use Rattle.std.proofs.Common.{◌≡◌, ◌∙◌, ap, Err}
 use Rattle.term_texts.specs.declared.reading.TermFault.TheVariants.{NoTerm}
-use Rattle.proof_text.proofs.StepLaw.{not_told}
+use Rattle.proof_text.proofs.TermLists.{not_told}
 use Rattle.proof_text.proofs.step.whole_term.Goals as goal
 
 pub returns-in-Err-NoTerm-clause-bad : goal.returns-in-Err-NoTerm-clause-bad
