@@ -13,8 +13,7 @@ mod leaves;
 mod making;
 #[cfg(test)]
 mod modes;
-#[cfg(test)]
-mod printed;
+pub mod printed;
 #[cfg(test)]
 mod source;
 #[cfg(test)]

@@ -13,10 +13,10 @@ use text_core::{Code, Name, Names, SourceError, Span};
 
 /// What names and numbers are, and where the pattern starts.
 #[derive(Clone, Copy)]
-pub(crate) struct Words<'a> {
-    pub(crate) names: &'a Names,
-    pub(crate) decls: &'a [AdtDecl],
-    pub(crate) start: u32,
+pub struct Words<'a> {
+    pub names: &'a Names,
+    pub decls: &'a [AdtDecl],
+    pub start: u32,
 }
 
 fn push_name(words: Words<'_>, out: &mut String, name: Name) -> Result<(), AllocError> {
@@ -68,7 +68,6 @@ fn push_opening(out: &mut String, op: TyUnary) -> Result<(), AllocError> {
 }
 
 #[cycle(ty)]
-#[tactic(auto, using(logic_term::specs::TyFalls::each_smaller))]
 fn push_ty(words: Words<'_>, out: &mut String, ty: &Ty) -> Result<(), AllocError> {
     match &ty.node {
         TyNode::Int(kind) => out.push_str(int_word(*kind)),
@@ -81,7 +80,6 @@ fn push_ty(words: Words<'_>, out: &mut String, ty: &Ty) -> Result<(), AllocError
 }
 
 #[cycle(ty)]
-#[tactic(auto, using(logic_term::specs::TyFalls::each_smaller))]
 fn push_compound(words: Words<'_>, out: &mut String, ty: &CompoundTy) -> Result<(), AllocError> {
     match ty {
         CompoundTy::Adt(id, _, types) => {
@@ -165,7 +163,6 @@ fn push_integer(out: &mut String, kind: Option<IntKind>, number: i128) -> Result
 }
 
 #[cycle(pattern)]
-#[tactic(auto, using(logic_term::specs::PatternFalls::each_smaller))]
 fn push_pattern(words: Words<'_>, out: &mut String, pattern: &TypedPat) -> Result<(), AllocError> {
     match &*pattern.node {
         PatNode::Wild => out.push_str("_")?,
@@ -207,7 +204,7 @@ fn push_bound(words: Words<'_>, out: &mut String, bound: &BoundName) -> Result<(
 }
 
 /// The tree, and the names behind it.
-pub(crate) fn push_typing(
+pub fn push_typing(
     words: Words<'_>,
     out: &mut String,
     typing: &PatternTyping,
@@ -223,7 +220,7 @@ pub(crate) fn push_typing(
 }
 
 /// The names with their places.
-pub(crate) fn push_spans(
+pub fn push_spans(
     words: Words<'_>,
     out: &mut String,
     names: &[BoundName],
@@ -264,7 +261,7 @@ fn push_field(
 }
 
 /// Its name, how many lifetimes and types it takes, how its fields are written, and its fields.
-pub(crate) fn push_constructor(
+pub fn push_constructor(
     words: Words<'_>,
     out: &mut String,
     constructor: Constructor<'_>,
@@ -295,7 +292,7 @@ fn code_word(code: Code) -> &'static str {
 }
 
 /// The code, and the bytes within the pattern.
-pub(crate) fn push_refusal(
+pub fn push_refusal(
     words: Words<'_>,
     out: &mut String,
     error: &SourceError,
