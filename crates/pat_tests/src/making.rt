@@ -1,7 +1,7 @@
 //! Structs without named fields, and variants of enums.
 use crate::source::{DECLARED, Question, Row, expect};
 
-const OPTIONS: [Row; 16] = [
+const OPTIONS: [Row; 17] = [
     ("None", "Option<u8>", "Option::None(): Option<u8>"),
     (
         "Some(x)",
@@ -30,6 +30,7 @@ const OPTIONS: [Row; 16] = [
     ("Some(true)", "Option<u8>", "E07 5..9"),
     ("Some(300)", "Option<u8>", "E07 5..8"),
     ("Option::All", "Option<u8>", "E05 8..11"),
+    ("mut None", "Option<u8>", "E07 0..8"),
 ];
 
 /// `None` and `Some` are known without their type.
@@ -73,7 +74,7 @@ fn variants_are_made(rt: HostRuntime) {
     expect(&rt, rt.alloc(), DECLARED, Question::Pattern, &VARIANTS);
 }
 
-const STRUCTS: [Row; 12] = [
+const STRUCTS: [Row; 14] = [
     ("A", "A", "A(): A"),
     ("A", "u8", "E07 0..1"),
     ("A()", "A", "E07 0..3"),
@@ -86,6 +87,8 @@ const STRUCTS: [Row; 12] = [
     ("P(a, b)", "P", "E07 0..7"),
     ("Z()", "Z", "Z(): Z"),
     ("Z", "Z", "E07 0..1"),
+    ("mut A", "A", "E07 0..5"),
+    ("mut N", "N", "N: N; mut N: N"),
 ];
 
 /// A unit struct is made by its name, and a tuple struct by its parts: neither name is bound.

@@ -23,14 +23,14 @@ use Rattle.logic_term.specs.TyView.{tys_of}
 use Rattle.source_trees.specs.declared.path.PathNode.{PathNode}
 use Rattle.source_trees.specs.declared.path.Segment.{Segment}
 use Rattle.source_trees.specs.Pat as P
-use Rattle.constructors.specs.Constructors.{Constructor, constructor_of, same_kind}
+use Rattle.constructors.specs.Constructors.{Constructor, constructor_named, constructor_of, same_kind}
 use Rattle.constructors.specs.Laws.{IsDeclared}
 use Rattle.constructors.proofs.Accepted as accepted
 use Rattle.constructors.proofs.Declaration.{constructor_found}
 use Rattle.pat_check.specs.Typed.{IsPat, ArePats, PartsOf, core, fields_in}
 use Rattle.pat_types.specs.declared.names.BoundName.{BoundName}
 use Rattle.pat_types.specs.Answers.{◌>>=◌, mismatch, double_name}
-use Rattle.pat_types.specs.PatternTyping.{seen, behind_unique, bound_name, is_bound, binds, binds_mutable, may_be, integer_at, truth_at, plain, Maker, tuple_maker, makes, shaped, alone, name_bound, path_at, Fields, wildcards, no_fields, with_field, field_of, all_given, complete, typed, typed_parts, typed_fields}
+use Rattle.pat_types.specs.PatternTyping.{seen, behind_unique, bound_name, is_bound, binds, binds_mutable, may_be, integer_at, truth_at, plain, Maker, tuple_maker, makes, shaped, alone, makes_values, mutable_at, name_bound, path_at, Fields, wildcards, no_fields, with_field, field_of, all_given, complete, typed, typed_parts, typed_fields}
 use Rattle.pat_types.proofs.TypeLists.{after, after_more, after_all}
 
 abbrev Outcome : Type 0
@@ -66,6 +66,13 @@ mutable_fits : (Δ : Declarations) (m : BindingKind) (s : Span) (t : Ty) (xs : L
 mutable_fits Δ Value s t xs x a h = binds_fits Δ Value true t xs x a h
 mutable_fits Δ Shared s t xs x a h = absurd (cc)
 mutable_fits Δ Unique s t xs x a h = absurd (cc)
+
+unmade_fits : (ds : List AdtDecl) (m : BindingKind) (s : Span) (t : Ty) (xs : List BoundName) (x : Segment) (a : Outcome) → mutable_at ds m s t xs x ≡ Ok a → IsPat (fields_in ds) a.0 t
+unmade_fits ds m s t xs x a h = by (makes_values (constructor_named ds x.name)) h
+  where
+    by : (b : Bool) → (if b then Err (mismatch s) else binds_mutable m s t xs x) ≡ Ok a → IsPat (fields_in ds) a.0 t
+    by true p = absurd (cc)
+    by false p = mutable_fits (fields_in ds) m s t xs x a p
 
 -- what is no more than a pattern
 plain_fits : (Δ : Declarations) (t : Ty) (xs : List BoundName) (r : Result Pat SourceError) (a : Outcome) → ((p : Pat) → r ≡ Ok p → IsPat Δ p t) → (r >>= plain xs) ≡ Ok a → IsPat Δ a.0 t
@@ -155,7 +162,7 @@ complete_fits Δ s rest ts f a fit h =
 mutual
   pub fits : (ds : List AdtDecl) (m : BindingKind) (xs : List BoundName) (p : P.Pat) (t : Ty) (a : Outcome) → typed ds m xs p t ≡ Ok a → IsPat (fields_in ds) a.0 t
   fits ds m xs (P.any s) t a h = subst (λ (b : Outcome). IsPat (fields_in ds) b.0 t) (accepted.same_ok (wild t, xs) a h) tt
-  fits ds m xs (P.mutable s x) t a h = mutable_fits (fields_in ds) m s t xs x a h
+  fits ds m xs (P.mutable s x) t a h = unmade_fits ds m s t xs x a h
   fits ds m xs (P.integer s z k) t a h = plain_fits (fields_in ds) t xs (integer_at s t (seen m t).1 z k) a (λ p. integer_fits (fields_in ds) s t (seen m t).1 z k p (core_seen m t)) h
   fits ds m xs (P.truth s b) t a h = plain_fits (fields_in ds) t xs (truth_at s t (seen m t).1 b) a (λ p. truth_fits (fields_in ds) s t (seen m t).1 b p (core_seen m t)) h
   fits ds m xs (P.path s p) t a h = path_fits ds m s t xs p.node (name_bound ds p.node) a h

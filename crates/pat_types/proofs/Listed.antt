@@ -19,12 +19,12 @@ use Rattle.logic_term.specs.Ty.{Ty, Tys, int, bool, math_int, no_tys, and_ty}
 use Rattle.source_trees.specs.declared.path.PathNode.{PathNode}
 use Rattle.source_trees.specs.declared.path.Segment.{Segment}
 use Rattle.source_trees.specs.Pat as P
-use Rattle.constructors.specs.Constructors.{constructor_of}
+use Rattle.constructors.specs.Constructors.{constructor_named, constructor_of}
 use Rattle.constructors.proofs.Accepted as accepted
 use Rattle.pat_types.specs.declared.names.BoundName.{BoundName}
 use Rattle.pat_types.specs.Answers.{◌>>=◌, mismatch, double_name}
 use Rattle.pat_types.specs.Laws.{AreDistinct, BindsAmong, AllBindAmong}
-use Rattle.pat_types.specs.PatternTyping.{seen, bound_name, is_bound, binds, binds_mutable, may_be, integer_at, truth_at, plain, Maker, tuple_maker, makes, shaped, alone, name_bound, path_at, Fields, wildcards, no_fields, with_field, field_of, all_given, complete, typed, typed_parts, typed_fields}
+use Rattle.pat_types.specs.PatternTyping.{seen, bound_name, is_bound, binds, binds_mutable, may_be, integer_at, truth_at, plain, Maker, tuple_maker, makes, shaped, alone, makes_values, mutable_at, name_bound, path_at, Fields, wildcards, no_fields, with_field, field_of, all_given, complete, typed, typed_parts, typed_fields}
 
 abbrev pub Outcome : Type 0
 Outcome = Pat × List BoundName
@@ -111,6 +111,13 @@ mutable_lists Value s t xs x a d h = binds_lists Value true t xs x a d h
 mutable_lists Shared s t xs x a d h = absurd (cc)
 mutable_lists Unique s t xs x a d h = absurd (cc)
 
+unmade_lists : (ds : List AdtDecl) (m : BindingKind) (s : Span) (t : Ty) (xs : List BoundName) (x : Segment) (a : Outcome) → AreDistinct xs → mutable_at ds m s t xs x ≡ Ok a → ListsOf xs a
+unmade_lists ds m s t xs x a d h = by (makes_values (constructor_named ds x.name)) h
+  where
+    by : (b : Bool) → (if b then Err (mismatch s) else binds_mutable m s t xs x) ≡ Ok a → ListsOf xs a
+    by true p = absurd (cc)
+    by false p = mutable_lists m s t xs x a d p
+
 plain_lists : (xs : List BoundName) (r : Result Pat SourceError) (a : Outcome) → AreDistinct xs → ((p : Pat) → r ≡ Ok p → BindsAmong xs p) → (r >>= plain xs) ≡ Ok a → ListsOf xs a
 plain_lists xs r a d f h =
     let b = accepted.bound r (plain xs) a h in
@@ -176,7 +183,7 @@ FieldsList xs a = Lists xs a.1 (λ ys. AllBindAmong ys (pats_of a.0.made))
 mutual
   pub lists : (ds : List AdtDecl) (m : BindingKind) (xs : List BoundName) (p : P.Pat) (t : Ty) (a : Outcome) → AreDistinct xs → typed ds m xs p t ≡ Ok a → ListsOf xs a
   lists ds m xs (P.any s) t a d h = subst (ListsOf xs) (accepted.same_ok (wild t, xs) a h) (nothing_more xs (wild t) d tt)
-  lists ds m xs (P.mutable s x) t a d h = mutable_lists m s t xs x a d h
+  lists ds m xs (P.mutable s x) t a d h = unmade_lists ds m s t xs x a d h
   lists ds m xs (P.integer s z k) t a d h = plain_lists xs (integer_at s t (seen m t).1 z k) a d (integer_binds s t (seen m t).1 z k xs) h
   lists ds m xs (P.truth s b) t a d h = plain_lists xs (truth_at s t (seen m t).1 b) a d (truth_binds s t (seen m t).1 b xs) h
   lists ds m xs (P.path s p) t a d h = path_lists ds m s t xs p.node (name_bound ds p.node) a d h

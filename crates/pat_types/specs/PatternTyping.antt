@@ -142,6 +142,10 @@ abbrev pub makes_values : Option Constructor → Bool
 makes_values None = false
 makes_values (Some c) = not (same_kind Named c.kind)
 
+-- so it stands behind no `mut` either
+abbrev pub mutable_at : List AdtDecl → BindingKind → Span → Ty → List BoundName → Segment → Typed
+mutable_at ds m s t xs x = if makes_values (constructor_named ds x.name) then Err (mismatch s) else binds_mutable m s t xs x
+
 -- the name that the path binds, if it binds one
 abbrev pub name_bound : List AdtDecl → PathNode → Option Segment
 name_bound ds (Names x [] []) = if makes_values (constructor_named ds x.name) then None else Some x
@@ -198,7 +202,7 @@ abbrev mutual
   -- at a value of the type that is reached so, behind these names
   pub typed : List AdtDecl → BindingKind → List BoundName → P.Pat → Ty → Typed
   typed ds m xs (P.any s) t = Ok (wild t, xs)
-  typed ds m xs (P.mutable s x) t = binds_mutable m s t xs x
+  typed ds m xs (P.mutable s x) t = mutable_at ds m s t xs x
   typed ds m xs (P.integer s z k) t = integer_at s t (seen m t).1 z k >>= plain xs
   typed ds m xs (P.truth s b) t = truth_at s t (seen m t).1 b >>= plain xs
   typed ds m xs (P.path s p) t = path_at ds m s t xs p.node (name_bound ds p.node)

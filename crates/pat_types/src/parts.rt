@@ -107,7 +107,8 @@ pub(crate) fn alone(
     Ok(shaped(alloc, ty, maker.ctor, Vec::new(alloc))?)
 }
 
-fn makes_values(constructor: &Option<Constructor<'_>>) -> bool
+/// Whether a name alone, of which this is found, makes a value, and so is not bound.
+pub(crate) fn makes_values(constructor: &Option<Constructor<'_>>) -> bool
     ensures { result ≡ makes_values (constructors_as constructor.now) }
 {
     match constructor {

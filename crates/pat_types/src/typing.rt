@@ -6,18 +6,18 @@ ghost use Rattle.source_trees.specs.Pat.{fields as written_struct, parts as writ
 ghost use Rattle.source_trees.specs.PatView.{field_pats_of as written_fields, pats_of as written_pats};
 ghost use Rattle.pat_types.specs.Answers.{AnswersAs, Gives, GivesAs};
 ghost use Rattle.pat_types.specs.Makers.{fields_by};
-ghost use Rattle.pat_types.specs.PatternTyping.{name_bound, no_fields, path_at, pattern_typed, typed, typed_fields, typed_parts};
+ghost use Rattle.pat_types.specs.PatternTyping.{mutable_at, name_bound, no_fields, path_at, pattern_typed, typed, typed_fields, typed_parts};
 
 use crate::fields::{FieldPatterns, no_fields};
 use crate::leaves::{integer_at, pattern_of, truth_at};
 use crate::names::{BoundName, bind, bind_mutable};
-use crate::parts::{alone, makes, name_bound, shaped, tuple_maker};
+use crate::parts::{alone, makes, makes_values, name_bound, shaped, tuple_maker};
 use crate::refusal::mismatch;
 use crate::seen::seen;
-use constructors::constructor_of;
+use constructors::{constructor_named, constructor_of};
 use logic_term::{BindingKind, FieldDecl, PatNode as TypedNode, Ty, TypedPat, VariantKind};
 use rs_types::AdtTable;
-use source_trees::{FieldPat, Pat, PatNode, Path};
+use source_trees::{FieldPat, Pat, PatNode, Path, Segment};
 use std::alloc::Global;
 use text_core::{PassError, Span};
 
@@ -46,6 +46,24 @@ pub fn type_pattern(
     let mut names = Vec::new(alloc);
     let pattern = type_under(alloc, types, BindingKind::Value, &mut names, pattern, ty)?;
     Ok(PatternTyping { pattern, names })
+}
+
+/// A name behind `mut`. E07 at the pattern where the name alone makes a value.
+fn type_mutable(
+    alloc: Global,
+    types: &AdtTable,
+    mode: BindingKind,
+    span: Span,
+    names: &mut Vec<BoundName>,
+    name: Segment,
+    ty: &Ty,
+) -> Result<TypedPat, PassError>
+    ensures { Gives result (mutable_at types.now mode span ty.now names.old.items name) names.new.items }
+{
+    if makes_values(&constructor_named(types, name.name)?) {
+        return Err(mismatch(span));
+    }
+    bind_mutable(alloc, mode, span, ty, names, name)
 }
 
 /// A path: a name that is bound, else a constructor without parts.
@@ -85,7 +103,7 @@ fn type_under(
     let span = pattern.span;
     match &*pattern.node {
         PatNode::Any => Ok(pattern_of(alloc, ty, TypedNode::Wild)?),
-        PatNode::Mutable(name) => bind_mutable(alloc, mode, span, ty, names, *name),
+        PatNode::Mutable(name) => type_mutable(alloc, types, mode, span, names, *name, ty),
         PatNode::Int(number, suffix) => {
             let (_, seen) = seen(mode, ty);
             integer_at(alloc, span, ty, seen, *number, *suffix)
