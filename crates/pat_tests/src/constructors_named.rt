@@ -2,17 +2,21 @@
 use crate::source::{DECLARED, Question, Row, expect};
 
 const FOUND: [Row; 11] = [
-    ("A", "()", "A<0, 0> unit ()"),
-    ("T", "()", "T<0, 0> numbered (u8, bool)"),
-    ("P", "()", "P<0, 0> named (x: u8, y: bool)"),
-    ("P { .. }", "()", "P<0, 0> named (x: u8, y: bool)"),
-    ("W", "()", "W<0, 1> named (v: T0)"),
-    ("R", "()", "R<1, 0> named (r: &mut P)"),
-    ("None", "()", "Option::None<0, 1> unit ()"),
-    ("Some(x)", "()", "Option::Some<0, 1> numbered (T0)"),
-    ("Option::Some", "()", "Option::Some<0, 1> numbered (T0)"),
-    ("E::C", "()", "E::C<0, 0> named (n: u8)"),
-    ("Or::R", "()", "Or::R<0, 2> numbered (T1)"),
+    ("A", "()", "A: unit ()"),
+    ("T", "()", "T: numbered (u8, bool)"),
+    ("P", "()", "P: named (x: u8, y: bool)"),
+    ("P { .. }", "()", "P: named (x: u8, y: bool)"),
+    ("W", "()", "W of 1 type: named (v: T0)"),
+    ("R", "()", "R of 1 lifetime: named (r: &mut P)"),
+    ("None", "()", "Option::None of 1 type: unit ()"),
+    ("Some(x)", "()", "Option::Some of 1 type: numbered (T0)"),
+    (
+        "Option::Some",
+        "()",
+        "Option::Some of 1 type: numbered (T0)",
+    ),
+    ("E::C", "()", "E::C: named (n: u8)"),
+    ("Or::R", "()", "Or::R of 2 types: numbered (T1)"),
 ];
 
 #[test]
@@ -42,10 +46,10 @@ fn unknown_names_are_refused(rt: HostRuntime) {
 }
 
 const OTHER: [Row; 4] = [
-    ("Option::N", "()", "Option::N<0, 0> unit ()"),
+    ("Option::N", "()", "Option::N: unit ()"),
     ("Option::Some", "()", "E05 8..12"),
     ("Some", "()", "E05 0..4"),
-    ("S", "()", "S<0, 0> numbered (Option)"),
+    ("S", "()", "S: numbered (Option)"),
 ];
 
 /// Where the source declares an `Option`, it is that one.

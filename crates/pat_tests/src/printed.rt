@@ -260,6 +260,15 @@ fn push_field(
     push_ty(words, out, &field.ty)
 }
 
+/// How many lifetimes or types a declared type takes, if it takes some.
+fn push_count(out: &mut String, count: u32, word: &str) -> Result<(), AllocError> {
+    match count {
+        0 => Ok(()),
+        1 => write!(out, " of 1 {word}"),
+        _ => write!(out, " of {count} {word}s"),
+    }
+}
+
 /// Its name, how many lifetimes and types it takes, how its fields are written, and its fields.
 pub fn push_constructor(
     words: Words<'_>,
@@ -267,9 +276,10 @@ pub fn push_constructor(
     constructor: Constructor<'_>,
 ) -> Result<(), AllocError> {
     push_variant(words, out, constructor.id, constructor.variant)?;
-    let (regions, params) = (constructor.regions, constructor.params);
+    push_count(out, constructor.regions, "lifetime")?;
+    push_count(out, constructor.params, "type")?;
     let word = kind_word(constructor.kind);
-    write!(out, "<{regions}, {params}> {word} (")?;
+    write!(out, ": {word} (")?;
     let mut before = "";
     for field in constructor.fields {
         out.push_str(before)?;
