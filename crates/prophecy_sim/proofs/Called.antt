@@ -211,4 +211,5 @@ module _ {K : Type 0} (s : Setup K) (f : FunctionOf s) (ρ₀ : Env) (fr : Frame
         let more : length takes.after ≡ suc frame = sym (stops_length takes.after) ∙ ap length takes.stay in
         let shows : AllShow takes.trees values = took_all_show b ρ param_types have can agrees takes.took in
         subst (Quiet Fine) (sym (call-row s.code now takes.after at p target types os l takes.trees callee.number callee.body takes.yields found.1 callee.is_body))
-        (continues.calls takes.after takes.stay takes.elsewhere (calls_fine takes.after takes.trees more takes.held (all_fit (bodies s) (own s callee).simple.owns (declarations s) s.declares (own s callee).simple.fields (owned_params s callee) takes.typed) (took_all_agree b ρ agrees takes.took) shows))
+        (continues.calls takes.after takes.stay takes.elsewhere
+            (calls_fine takes.after takes.trees more takes.held (all_fit (bodies s) (own s callee).simple.owns (declarations s) s.declares (own s callee).simple.fields (owned_params s callee) takes.typed) (took_all_agree b ρ agrees takes.took) shows))
