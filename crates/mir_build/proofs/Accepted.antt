@@ -28,6 +28,10 @@ pub both_none : (a b : Option SourceError) → a ≡ None → b ≡ None → or_
 both_none None b e g = g
 both_none (Some x) b e g = absurd (cc)
 
+-- a match is refused
+pub no_match : (a b : Option SourceError) (x : SourceError) → or_else a (or_else b (Some x)) ≡ None → ⊥
+no_match a b x e = let f : Some x ≡ None = second_none b (Some x) (second_none a (or_else b (Some x)) e) in cc
+
 pub ruleset refusals = (first_none, second_none, both_none)
 
 -- ---- the formulas of assertions

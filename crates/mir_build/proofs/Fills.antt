@@ -10,7 +10,7 @@ use Rattle.mir_ir.specs.declared.statement.Statement.{Statement}
 use Rattle.mir_ir.specs.declared.terminator.Terminator.{Terminator}
 use Rattle.source_kinds.specs.declared.kinds.LazyOp.{LazyOp}
 use Rattle.source_kinds.specs.declared.kinds.LazyOp.TheVariants.{And, Or}
-use Rattle.type_check.specs.TypedExpr.{TypedExpr, TypedStmts, TypedExprs, integer, truth, variable, negative, denied, cast, binary, lazy, assign, update, call, make, part, block, branch, choice, repeat, panics, returned, endless, until_break, break_off, go_on, done, last, leaving, bind, run, none, more}
+use Rattle.type_check.specs.TypedExpr.{TypedExpr, TypedStmts, TypedExprs, integer, truth, variable, negative, denied, cast, binary, lazy, assign, update, call, make, part, block, branch, choice, matched, repeat, panics, returned, endless, until_break, break_off, go_on, done, last, leaving, bind, run, none, more}
 use Rattle.type_check.specs.Leaves.{leaves}
 use Rattle.type_check.specs.TypedExprView.{ty_of}
 use Rattle.mir_build.specs.Text.{Line, Puts, Makes, Turns, Leaves, Owns, made}
@@ -188,6 +188,7 @@ mutual
   fills (block ty s ss) c l t d = rest_filled ss false s c l t d
   fills (branch ty s e a) c l t d = as_counts _ (omega arith) (omega arith) (made_then _ _ _ _ _ refl refl (fills e c l (t + 1) t) (forked _ _ c _ _ _ _ _ refl refl (fills a c _ _ d) (one _ _ _)))
   fills (choice ty s e a b) c l t d = as_counts _ (omega arith) (omega arith) (made_then _ _ _ _ _ refl refl (fills e c l (t + 1) t) (sides_filled (leaves a && leaves b) _ _ c s t _ _ refl refl (fills a c _ _ d) (fills b c _ _ d)))
+  fills (matched ty s e as') c l t d = nothing l t
   fills (repeat ty s is e b) c l t d =
       as_counts _ (omega arith) (omega arith)
       (looped _ _ (looping c (label l) (label (l + 2))) c _ _ _ _ _ _ _ _ _ _ refl refl (fills e (looping c (label l) (label (l + 2))) (l + 3) (t + 1) t) (fills b (looping c (label l) (label (l + 2))) (l + 3 + labels e) (t + 1 + locals e + 1) (t + 1 + locals e)))

@@ -9,7 +9,7 @@ use Rattle.type_check.specs.declared.program.TypedFunction.{TypedFunction}
 use Rattle.type_check.specs.Breaks.{breaks}
 use Rattle.type_check.specs.Leaves.{leaves}
 use Rattle.type_check.specs.Plain.{IsScalar, AllScalar, IsPlain, StatementsArePlain, ArePlain, FunctionIsPlain}
-use Rattle.type_check.specs.TypedExpr.{TypedExpr, TypedStmts, TypedExprs, integer, truth, variable, negative, denied, cast, binary, lazy, assign, update, call, make, part, block, branch, choice, repeat, panics, returned, endless, until_break, break_off, go_on, done, last, leaving, bind, run, none, more}
+use Rattle.type_check.specs.TypedExpr.{TypedExpr, TypedStmts, TypedExprs, integer, truth, variable, negative, denied, cast, binary, lazy, assign, update, call, make, part, block, branch, choice, matched, repeat, panics, returned, endless, until_break, break_off, go_on, done, last, leaving, bind, run, none, more}
 use Rattle.type_check.specs.TypedExprView.{ty_of}
 use Rattle.type_check.specs.WellTyped.{unit, is_signed, operation_ty, EachSpeaks, Surroundings, looping, outside, surroundings_of, IsOf, IsOfOrLeaves, ClausesSpeak, IsWellTyped, StatementsFit, ArgumentsFit, FunctionFits}
 
@@ -36,6 +36,7 @@ abbrev mutual
   IsPlainlyTyped σ Γ (branch t s c a) = (t ≡ unit) × IsOf bool c × IsOf unit a × IsPlainlyTyped σ Γ c × IsPlainlyTyped σ Γ a
   -- a side that leaves fits any type
   IsPlainlyTyped σ Γ (choice t s c a b) = IsOf bool c × IsScalarOrLeaves t a × IsScalarOrLeaves t b × IsPlainlyTyped σ Γ c × IsPlainlyTyped σ Γ a × IsPlainlyTyped σ Γ b
+  IsPlainlyTyped σ Γ (matched t s e as') = ⊥
   IsPlainlyTyped σ Γ (repeat t s is c b) = (t ≡ unit) × EachSpeaks (length Γ) is × IsOf bool c × IsOf unit b × IsPlainlyTyped (outside σ) Γ c × IsPlainlyTyped (looping σ) Γ b
   -- what leaves is of any scalar type
   IsPlainlyTyped σ Γ (panics t s k) = IsScalar t
@@ -90,6 +91,7 @@ mutual
   plainly σ Γ (block t s ss) p h = plain_statements σ Γ t ss p.0 p.1 h
   plainly σ Γ (branch t s c a) p h = (h.0, h.1, h.2, plainly σ Γ c p.1 h.3, plainly σ Γ a p.2 h.4)
   plainly σ Γ (choice t s c a b) p h = (h.0, side t a p.0 h.1, side t b p.0 h.2, plainly σ Γ c p.1 h.3, plainly σ Γ a p.2 h.4, plainly σ Γ b p.3 h.5)
+  plainly σ Γ (matched t s e as') p h = p
   plainly σ Γ (repeat t s is c b) p h = (h.0, h.1, h.2, h.3, plainly (outside σ) Γ c p.1 h.4, plainly (looping σ) Γ b p.2 h.5)
   plainly σ Γ (panics t s k) p h = p
   plainly σ Γ (returned t s e) p h = (p.0, h.1, plainly σ Γ e p.1 h.2)

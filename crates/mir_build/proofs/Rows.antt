@@ -8,17 +8,17 @@ use Rattle.logic_term.specs.Ty.{Ty, int}
 use Rattle.source_kinds.specs.declared.kinds.IntKind.{IntKind}
 use Rattle.mir_ir.specs.declared.place.Place.{Place}
 use Rattle.type_check.specs.declared.assertion.Assertion.{Assertion}
-use Rattle.type_check.specs.TypedExpr.{TypedExpr, TypedStmts, TypedExprs, integer, truth, variable, negative, denied, cast, binary, lazy, assign, update, call, make, part, block, branch, choice, repeat, panics, returned, endless, until_break, break_off, go_on, done, last, leaving, bind, run, none, more}
+use Rattle.type_check.specs.TypedExpr.{TypedExpr, TypedStmts, TypedExprs, integer, truth, variable, negative, denied, cast, binary, lazy, assign, update, call, make, part, block, branch, choice, matched, repeat, panics, returned, endless, until_break, break_off, go_on, done, last, leaving, bind, run, none, more}
 use Rattle.type_check.specs.Leaves.{leaves}
 use Rattle.type_check.specs.TypedExprView.{ty_of}
-use Rattle.type_check.specs.FirstBad.{bad_among, bad_in, bad_in_stmts, bad_in_exprs}
-use Rattle.type_check.specs.Answers.{or_else}
+use Rattle.type_check.specs.FirstBad.{bad_among, bad_in, bad_in_arms, bad_in_stmts, bad_in_exprs}
+use Rattle.type_check.specs.Answers.{or_else, unbuilt}
 use Rattle.type_check.specs.WellTyped.{Surroundings, within_loop, IsWellTyped, StatementsFit, ArgumentsFit, PartsFit}
 use Rattle.mir_build.specs.Lowering.{is_place, Around, accepted, whole, binds, looping, innermost, Into, of_integer, of_truth, of_variable, of_negative, of_denied, of_cast, of_binary, of_lazy, of_assign, of_update, of_call, of_make, of_part, of_block, of_branch}
 use Rattle.mir_build.specs.Lowering.{of_choice, of_leaving_choice, of_repeat, of_panics, of_returned, of_endless, of_until_break, of_break_off, of_go_on, Rest, of_done, of_last, of_leaving, of_bind, of_run, Args, of_none, of_more, PlaceOf, of_name, of_part_place, of_temporary, IntoBody, of_outermost, of_other, named, named_place, named_rest, named_args, named_body}
 use Rattle.mir_build.specs.Text.{Line, Makes}
 use Rattle.mir_build.specs.Numbered.{no_loop, loop_at, place_of, text_before, place_before, choice_labels, choice_text, formula_of, into, rest, args, body_text, labels, labels_in, locals, temporaries, label, variable_place, between}
-use Rattle.mir_build.proofs.Accepted.{first_none, second_none, all_accepted}
+use Rattle.mir_build.proofs.Accepted.{first_none, second_none, no_match, all_accepted}
 use Rattle.mir_build.proofs.Fills.{numbers_of}
 use Rattle.mir_build.proofs.Following.{From, then_two, then_three}
 use Rattle.mir_build.proofs.Taking.{takes}
@@ -187,6 +187,7 @@ mutual
       let q = lowers σ Γ a c n u d h o w.4 (first_none (bad_in a) (bad_in b) (second_none (bad_in e) (or_else (bad_in a) (bad_in b)) g)) in
       let r = lowers σ Γ b c (n + labels a) (u + locals a) d h o w.5 (second_none (bad_in a) (bad_in b) (second_none (bad_in e) (or_else (bad_in a) (bad_in b)) g)) in
       chosen both ty s e a b c l m t d _ _ _ refl refl p q r
+  lowers σ Γ (matched ty s e as') c l t d h o w g = absurd (no_match (bad_in e) (bad_in_arms as') (unbuilt s) g)
   lowers σ Γ (repeat ty s is e b) c l t d h o w g =
       let inside = looping c (label l) (label (l + 2)) in
       let u = t + 1 + locals e in

@@ -4,7 +4,7 @@ use Rattle.std.proofs.lemmas.List.{drop_all}
 use Rattle.std.proofs.lemmas.Option.{slice_get_within}
 use Rattle.logic_term.specs.Ty.{Ty}
 use Rattle.type_check.specs.declared.typed.TypedStmt.{TypedStmt}
-use Rattle.type_check.specs.TypedExpr.{TypedExpr, TypedStmts, TypedExprs, integer, truth, variable, negative, denied, cast, binary, lazy, assign, update, call, make, part, block, branch, choice, repeat, panics, returned, endless, until_break, break_off, go_on, done, last, leaving, bind, run, none, more}
+use Rattle.type_check.specs.TypedExpr.{TypedExpr, TypedStmts, TypedExprs, integer, truth, variable, negative, denied, cast, binary, lazy, assign, update, call, make, part, block, branch, choice, matched, repeat, panics, returned, endless, until_break, break_off, go_on, done, last, leaving, bind, run, none, more}
 use Rattle.type_check.specs.TypedExprView.{ty_of, stmt_of, stmts_of}
 use Rattle.type_check.specs.WellTyped.{Surroundings, within_loop, IsWellTyped, StatementsFit, ArgumentsFit, PartsFit}
 use Rattle.mir_build.specs.Lowering.{Around, whole}
@@ -32,6 +32,7 @@ mutual
   within_scope σ Γ (block ty s ss) w = statements_within σ Γ ty ss w
   within_scope σ Γ (branch ty s e a) w = omega (arith, within_scope σ Γ e w.3, within_scope σ Γ a w.4)
   within_scope σ Γ (choice ty s e a b) w = omega (arith, within_scope σ Γ e w.3, within_scope σ Γ a w.4, within_scope σ Γ b w.5)
+  within_scope σ Γ (matched ty s e as') w = omega arith
   within_scope σ Γ (repeat ty s is e b) w = omega (arith, within_scope (within_loop false σ) Γ e w.4, within_scope (within_loop true σ) Γ b w.5)
   within_scope σ Γ (panics ty s k) w = omega arith
   within_scope σ Γ (returned ty s e) w = within_scope σ Γ e w.2

@@ -17,7 +17,7 @@ use Rattle.mir_ir.specs.declared.terminator.Callee.TheVariants.{Function}
 use Rattle.mir_ir.specs.declared.terminator.TerminatorKind.TheVariants.{Goto, If, Call, Return, Panic}
 use Rattle.type_check.specs.declared.assertion.Assertion.{Assertion}
 use Rattle.type_check.specs.declared.assertion.Assertion.TheVariants.{Good, Bad}
-use Rattle.type_check.specs.TypedExpr.{TypedExpr, TypedStmts, TypedExprs, integer, truth, variable, negative, denied, cast, binary, lazy, assign, update, call, make, part, block, branch, choice, repeat, panics, returned, endless, until_break, break_off, go_on, done, last, leaving, bind, run, none, more}
+use Rattle.type_check.specs.TypedExpr.{TypedExpr, TypedStmts, TypedExprs, integer, truth, variable, negative, denied, cast, binary, lazy, assign, update, call, make, part, block, branch, choice, matched, repeat, panics, returned, endless, until_break, break_off, go_on, done, last, leaving, bind, run, none, more}
 use Rattle.type_check.specs.Leaves.{leaves}
 use Rattle.type_check.specs.TypedExprView.{ty_of}
 use Rattle.mir_build.specs.declared.around.Loop.{Loop}
@@ -108,6 +108,8 @@ abbrev mutual
   labels (block ty s ss) = labels_of ss
   labels (branch ty s e a) = labels e + 3 + labels a
   labels (choice ty s e a b) = labels e + choice_labels (leaves a && leaves b) + labels a + labels b
+  -- no row speaks of a match so far, and no text is lowered with one
+  labels (matched ty s e as') = 0
   labels (repeat ty s is e b) = 3 + labels e + labels b
   labels (panics ty s k) = 0
   labels (returned ty s e) = labels e
@@ -147,6 +149,7 @@ abbrev mutual
   locals (block ty s ss) = locals_of ss
   locals (branch ty s e a) = 1 + locals e + locals a
   locals (choice ty s e a b) = 1 + locals e + locals a + locals b
+  locals (matched ty s e as') = 0
   locals (repeat ty s is e b) = 1 + locals e + 1 + locals b
   locals (panics ty s k) = 0
   locals (returned ty s e) = locals e
@@ -212,6 +215,7 @@ abbrev mutual
       let n = m + choice_labels (leaves a && leaves b) in
       let u = t + 1 + locals e in
       Makes t (ty_of e) ∷ (into e c l (t + 1) t ++ choice_text (leaves a && leaves b) c s t m (into a c n u d) (into b c (n + labels a) (u + locals a) d))
+  into (matched ty s e as') c l t d = []
   into (repeat ty s is e b) c l t d =
       let inside = looping c (label l) (label (l + 2)) in
       let u = t + 1 + locals e in

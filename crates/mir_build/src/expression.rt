@@ -1,14 +1,14 @@
 //! Lowering of expressions: what they add to the text of their body.
-ghost use Rattle.std.specs.Prelude.{true, false, None, ◌≡◌, ◌+◌, ◌^◌, ◌≤◌, ◌<◌, ◌*◌, max, ◌∷◌, ◌++◌, [], length, map, OnOk, IfOk, IfErr};
+ghost use Rattle.std.specs.Prelude.{true, false, None, ◌≡◌, ◌+◌, ◌≤◌, ◌<◌, ◌*◌, max, ◌∷◌, ◌++◌, [], length, map, OnOk, IfOk, IfErr};
 ghost use Rattle.type_check.specs.Answers.{or_else};
-ghost use Rattle.type_check.specs.FirstBad.{bad_among, bad_in, bad_in_exprs, bad_in_stmts};
-ghost use Rattle.type_check.specs.TypedExpr.{negative, denied, assign, update, branch, choice, repeat, call, make};
+ghost use Rattle.type_check.specs.FirstBad.{bad_in, bad_in_exprs, bad_in_stmts};
+ghost use Rattle.type_check.specs.TypedExpr.{negative, denied, assign, update, branch, choice, call, make};
 ghost use Rattle.type_check.specs.TypedExprView.{ty_of, stmts_of, exprs_of, typed_size};
 ghost use Rattle.type_check.specs.WellTyped.{unit};
 ghost use Rattle.mir_ir.specs.declared.terminator.TerminatorKind.TheVariants.{Return};
 ghost use Rattle.mir_build.specs.Text.{Makes, Leaves};
 ghost use Rattle.mir_build.specs.Lowering.{moved, ends};
-ghost use Rattle.mir_build.specs.Numbered.{into, rest, if_text, args, loop_text, endless_text, broken_text, temporaries, labels, labels_of, labels_in, locals, locals_of, locals_in};
+ghost use Rattle.mir_build.specs.Numbered.{into, rest, if_text, args, temporaries, labels, labels_of, labels_in, locals, locals_of, locals_in};
 ghost use Rattle.mir_build.specs.Reach.{reach, reach_of, reach_in};
 ghost use Rattle.mir_build.specs.Built.{written, around, end_of};
 ghost use Rattle.mir_build.specs.Tasks.{to_do, lazy_text, behind_labels, behind_locals, behind_reach, behind_bad, task_text, task_labels, task_locals, task_size, task_reach, task_bad, task_weight};
@@ -22,7 +22,7 @@ use crate::binding::end_bindings;
 use crate::block_end::BlockEnd;
 use crate::builder::{Builder, moved, whole};
 use crate::jump::{both_leave, lower_break, lower_continue};
-use crate::looping::{end_loop, enter_loop, leave_loop};
+use crate::loops::{lower_endless, lower_repeat, lower_until_break};
 use crate::operand::{kind_of, push_left, take, take_place, type_of};
 use crate::stop::Stop;
 use crate::task::{Behind, Pending, Task};
@@ -31,12 +31,12 @@ use mir_ir::{Callee, FnId, Lit, Operand, Rvalue, TerminatorKind};
 use source_kinds::{BinaryOp, LazyOp};
 use std::alloc::Global;
 use text_core::{Items, Span};
-use type_check::{Assertion, TypedExpr, TypedNode, TypedStmt};
+use type_check::{TypedExpr, TypedNode, TypedStmt};
 
 /// A new local that holds the value.
 #[cycle(lower)]
 #[tactic(auto, using(crate::proofs::Runs::running))]
-fn lower_new(alloc: Global, b: &mut Builder, c: &mut Around<'_>, e: &TypedExpr) -> Result<u32, Stop>
+pub(crate) fn lower_new(alloc: Global, b: &mut Builder, c: &mut Around<'_>, e: &TypedExpr) -> Result<u32, Stop>
     requires scope { reach e.now ≤ length c.old.scope.items }
     requires good { bad_in e.now ≡ None }
     ensures number { IfOk result (λ t. t ≡ length b.old.text.locals) }
@@ -173,6 +173,7 @@ fn lower_left<'a>(
         }
         TypedNode::If(x, y) => lower_branch(alloc, b, c, span, x, y, d),
         TypedNode::IfElse(x, y, z) => lower_choice(alloc, b, c, span, x, y, z, d),
+        TypedNode::Match(_, _) => unreachable!(),
         TypedNode::While(is, x, y) => lower_repeat(alloc, b, c, span, is, x, y, d),
         TypedNode::Panic(cause) => Ok(b.leave(span, TerminatorKind::Panic(*cause))?),
         TypedNode::Return(x) => lower_return(alloc, b, c, span, x),
@@ -538,66 +539,6 @@ fn lower_fork(
     lower_into(alloc, b, c, z, d)
 }
 
-/// The condition and the body of a loop. Answers the first local of the loop's own.
-#[cycle(lower)]
-#[tactic(auto, using(crate::proofs::Runs::running))]
-fn lower_loop(
-    alloc: Global,
-    b: &mut Builder,
-    c: &mut Around<'_>,
-    span: Span,
-    head: u32,
-    x: &TypedExpr,
-    y: &TypedExpr,
-) -> Result<u32, Stop>
-    requires small { head + 2 < 2 ^ 32 }
-    requires scope { max (reach x.now) (reach y.now) ≤ length c.old.scope.items }
-    requires good { or_else (bad_in x.now) (bad_in y.now) ≡ None }
-    ensures first { IfOk result (λ t. t ≡ length b.old.text.locals) }
-    ensures text { OnOk result (b.new.text ≡ written (loop_text x.now y.now span (around c.old) head b.old.labels (length b.old.text.locals)) b.old.text) }
-    ensures labels { OnOk result (b.new.labels ≡ b.old.labels + labels x.now + labels y.now) }
-    ensures locals { OnOk result (length b.new.text.locals ≡ length b.old.text.locals + 1 + locals x.now + 1 + locals y.now) }
-    ensures limit { IfErr result (λ stop. stop ≡ Blocks → 4096 < b.old.labels + labels x.now + labels y.now) }
-    ensures most { OnOk result (b.old.labels ≤ 4096 → b.new.labels ≤ 4096) }
-    ensures around { OnOk result (around c.new ≡ around c.old) }
-    ensures count { OnOk result (length c.new.scope.items ≡ length c.old.scope.items) }
-{
-    let t = lower_new(alloc, b, c, x)?;
-    let test = TerminatorKind::If(moved(alloc, t), Label(head + 1), Label(head + 2));
-    b.turn(alloc, c, span, test, head + 1)?;
-    lower_new(alloc, b, c, y)?;
-    Ok(t)
-}
-
-#[cycle(lower)]
-#[tactic(auto, using(crate::proofs::Runs::running))]
-fn lower_repeat(
-    alloc: Global,
-    b: &mut Builder,
-    c: &mut Around<'_>,
-    span: Span,
-    invariants: &[Assertion],
-    x: &TypedExpr,
-    y: &TypedExpr,
-    d: u32,
-) -> Result<(), Stop>
-    requires scope { max (reach x.now) (reach y.now) ≤ length c.old.scope.items }
-    requires good { or_else (bad_among invariants.now) (or_else (bad_in x.now) (bad_in y.now)) ≡ None }
-    ensures text { OnOk result (b.new.text ≡ written (into (repeat unit span invariants.now x.now y.now) (around c.old) b.old.labels (length b.old.text.locals) d) b.old.text) }
-    ensures labels { OnOk result (b.new.labels ≡ b.old.labels + labels (repeat unit span invariants.now x.now y.now)) }
-    ensures locals { OnOk result (length b.new.text.locals ≡ length b.old.text.locals + locals (repeat unit span invariants.now x.now y.now)) }
-    ensures limit { IfErr result (λ stop. stop ≡ Blocks → 4096 < b.old.labels + labels (repeat unit span invariants.now x.now y.now)) }
-    ensures most { OnOk result (b.old.labels ≤ 4096 → b.new.labels ≤ 4096) }
-    ensures around { OnOk result (around c.new ≡ around c.old) }
-    ensures count { OnOk result (length c.new.scope.items ≡ length c.old.scope.items) }
-{
-    let head = b.take_labels(3)?;
-    enter_loop(alloc, b, c, span, invariants, head, head + 2)?;
-    let t = lower_loop(alloc, b, c, span, head, x, y)?;
-    leave_loop(alloc, b, c, span, head, head + 2, t, d)?;
-    Ok(())
-}
-
 /// `return`: the answer goes to local 0.
 #[cycle(lower)]
 #[tactic(auto, using(crate::proofs::Runs::running))]
@@ -620,63 +561,6 @@ fn lower_return(
 {
     lower_into(alloc, b, c, x, 0)?;
     Ok(b.leave(span, TerminatorKind::Return)?)
-}
-
-/// `loop`, which is not left.
-#[cycle(lower)]
-#[tactic(auto, using(crate::proofs::Runs::running))]
-fn lower_endless(
-    alloc: Global,
-    b: &mut Builder,
-    c: &mut Around<'_>,
-    span: Span,
-    invariants: &[Assertion],
-    x: &TypedExpr,
-) -> Result<(), Stop>
-    requires scope { reach x.now ≤ length c.old.scope.items }
-    requires good { or_else (bad_among invariants.now) (bad_in x.now) ≡ None }
-    ensures text { OnOk result (b.new.text ≡ written (endless_text x.now invariants.now span (around c.old) b.old.labels (length b.old.text.locals)) b.old.text) }
-    ensures labels { OnOk result (b.new.labels ≡ b.old.labels + 1 + labels x.now) }
-    ensures locals { OnOk result (length b.new.text.locals ≡ length b.old.text.locals + 1 + locals x.now) }
-    ensures limit { IfErr result (λ stop. stop ≡ Blocks → 4096 < b.old.labels + 1 + labels x.now) }
-    ensures most { OnOk result (b.old.labels ≤ 4096 → b.new.labels ≤ 4096) }
-    ensures around { OnOk result (around c.new ≡ around c.old) }
-    ensures count { OnOk result (length c.new.scope.items ≡ length c.old.scope.items) }
-{
-    let head = b.take_labels(1)?;
-    enter_loop(alloc, b, c, span, invariants, head, head)?;
-    let t = lower_new(alloc, b, c, x)?;
-    end_loop(alloc, b, c, span, head, t)?;
-    Ok(())
-}
-
-/// `loop`, which a `break` leaves.
-#[cycle(lower)]
-#[tactic(auto, using(crate::proofs::Runs::running))]
-fn lower_until_break(
-    alloc: Global,
-    b: &mut Builder,
-    c: &mut Around<'_>,
-    span: Span,
-    invariants: &[Assertion],
-    x: &TypedExpr,
-    d: u32,
-) -> Result<(), Stop>
-    requires scope { reach x.now ≤ length c.old.scope.items }
-    requires good { or_else (bad_among invariants.now) (bad_in x.now) ≡ None }
-    ensures text { OnOk result (b.new.text ≡ written (broken_text x.now invariants.now span (around c.old) b.old.labels (length b.old.text.locals) d) b.old.text) }
-    ensures labels { OnOk result (b.new.labels ≡ b.old.labels + 2 + labels x.now) }
-    ensures locals { OnOk result (length b.new.text.locals ≡ length b.old.text.locals + 1 + locals x.now) }
-    ensures limit { IfErr result (λ stop. stop ≡ Blocks → 4096 < b.old.labels + 2 + labels x.now) }
-    ensures most { OnOk result (b.old.labels ≤ 4096 → b.new.labels ≤ 4096) }
-    ensures around { OnOk result (around c.new ≡ around c.old) }
-    ensures count { OnOk result (length c.new.scope.items ≡ length c.old.scope.items) }
-{
-    let head = b.take_labels(2)?;
-    enter_loop(alloc, b, c, span, invariants, head, head + 1)?;
-    let t = lower_new(alloc, b, c, x)?;
-    leave_loop(alloc, b, c, span, head, head + 1, t, d)?;
-    Ok(())
 }
 
 #[cycle(lower)]

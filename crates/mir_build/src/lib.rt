@@ -12,6 +12,7 @@ mod function;
 mod jump;
 mod laws;
 mod looping;
+mod loops;
 mod lowered;
 mod operand;
 mod program;

@@ -1,11 +1,13 @@
 -- Whether a `break` stands in typed blocks and calls, part by part.
 use Rattle.std.proofs.Common.{◌≡◌, ◌∙◌, ℕ, suc, ◌+◌, ◌<◌, Bool, true, false, List, [], ◌∷◌, length, get_or, drop, drop-cons, add-one, refl, ap, sym}
 use Rattle.std.specs.Prelude.{◌||◌}
+use Rattle.type_check.specs.declared.typed.TypedArm.{TypedArm}
 use Rattle.type_check.specs.declared.typed.TypedStmt.{TypedStmt}
-use Rattle.type_check.specs.Breaks.{breaks, some_statement_breaks, some_breaks}
+use Rattle.type_check.specs.Breaks.{breaks, some_statement_breaks, some_breaks, some_arm_breaks}
 use Rattle.type_check.specs.TypedExpr.{TypedExpr, TypedStmts, done, last, leaving}
 use Rattle.type_check.specs.TypedExprFalls.{each_smaller}
-use Rattle.type_check.specs.TypedExprView.{exprs_of, stmt_of, stmts_of}
+use Rattle.type_check.specs.TypedExprView.{arms_of, exprs_of, stmt_of, stmts_of}
+use Rattle.type_check.proofs.ArmParts.{arm_smaller}
 use Rattle.type_check.proofs.TypedParts.{begin_smaller, last_smaller, leaving_smaller, stmt_smaller}
 
 or-assoc : (a b c : Bool) → (a || (b || c)) ≡ ((a || b) || c)
@@ -61,4 +63,7 @@ pub break_at : (ss : List TypedStmt) (i : ℕ) (s : TypedStmt) → s ≡ get_or 
     → true ≡ some_statement_breaks (stmts_of ss done)
 break_at ss i s q h p r = or_first (breaks s.value) (some_statement_breaks (stmts_of (drop (i + 1) ss) done)) p ∙ sym (breaks_stmts_at ss i s q h) ∙ r
 
-pub ruleset break_parts = (each_smaller, begin_smaller, last_smaller, leaving_smaller, stmt_smaller, breaks_at_last, breaks_at_leaving, breaks_exprs_at, breaks_stmts_at)
+pub breaks_arms_at : (xs : List TypedArm) (i : ℕ) (x : TypedArm) → x ≡ get_or xs i x → i < length xs → some_arm_breaks (arms_of (drop i xs)) ≡ (breaks x.body || some_arm_breaks (arms_of (drop (i + 1) xs)))
+breaks_arms_at xs i x q h = rw (add-one, drop-cons xs i x h) (ap (λ (y : TypedArm). breaks y.body || some_arm_breaks (arms_of (drop (suc i) xs))) (sym q))
+
+pub ruleset break_parts = (arm_smaller, breaks_arms_at, each_smaller, begin_smaller, last_smaller, leaving_smaller, stmt_smaller, breaks_at_last, breaks_at_leaving, breaks_exprs_at, breaks_stmts_at)

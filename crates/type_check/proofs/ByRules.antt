@@ -8,21 +8,23 @@ use Rattle.logic_term.specs.Ty.{Ty, bool}
 use Rattle.source_trees.specs.declared.operator.UnaryOp.TheVariants.{Neg, Not}
 use Rattle.source_trees.specs.Expr as E
 use Rattle.source_trees.specs.Expr.{Expr}
+use Rattle.source_trees.specs.Pat.{Pat}
 use Rattle.source_trees.specs.TypeTree.{TypeTree}
 use Rattle.type_check.specs.declared.operands.Operands.{Operands}
 use Rattle.type_check.specs.declared.operands.Order.{Order}
 use Rattle.type_check.specs.declared.operands.Order.TheVariants as order
 use Rattle.type_check.specs.declared.scope.Variable.{Variable}
 use Rattle.type_check.specs.Answers.{◌>>=◌, gather}
+use Rattle.type_check.specs.Arms.{Binding, TypedArm, arm_of, pattern_at, in_arm, and_arm}
 use Rattle.type_check.specs.Makers.{Maker, maker_of}
 use Rattle.type_check.specs.Setting.{Setting, looping, outside}
-use Rattle.type_check.specs.TypedExpr.{TypedExpr, TypedExprs}
+use Rattle.type_check.specs.TypedExpr.{TypedExpr, TypedExprs, TypedArms}
 use Rattle.type_check.specs.TypedExpr as tree
 use Rattle.type_check.specs.TypedExprView.{ty_of}
-use Rattle.type_check.specs.Typing.{Typed, is_bare, order_of, operands_of, operands, cast_parts, widened, callee_of, params_of, first_of, rest_of, Opened, opened, declared, behind, typed_stmt, given, invariant_of, parts_of, next_field, fields_behind, no_field_left, typed, typed_stmts, typed_args, typed_fields}
+use Rattle.type_check.specs.Typing.{Typed, is_bare, order_of, operands_of, operands, cast_parts, callee_of, params_of, first_of, rest_of, Opened, opened, declared, behind, typed_stmt, given, invariant_of, parts_of, next_field, fields_behind, no_field_left, typed, typed_stmts, typed_args, typed_fields, typed_arm, typed_arms}
 use Rattle.type_check.specs.WellTyped.{unit, is_arithmetic}
 use Rattle.type_check.specs.Written.{step_of, written_type}
-use Rattle.type_check.specs.Rules.{Asks, comes, part, first, operands_in, cast_in, each_arg, each_field, each_stmt, rule, Types, by_rule, Comes, itself, refused, then, TypedByRules, TypingIsOne}
+use Rattle.type_check.specs.Rules.{Asks, comes, part, first, operands_in, cast_in, each_arg, each_field, each_stmt, an_arm, each_arm, rule, Types, by_rule, Comes, itself, refused, then, TypedByRules, TypingIsOne}
 
 -- ---- one outcome
 
@@ -93,6 +95,12 @@ at_cast σ true Γ e w k f each h =
 at_cast σ false Γ e w k f each h =
     at_part_in σ Γ e None (typed σ Γ e None) _ (λ a. written_type σ.types w >>= λ u. Ok (a, u)) f (each None) (λ a. at_target (written_type σ.types w) a k f h)
 
+at_arm : (σ : Setting) (Γ : List Variable) (u : Ty) (t : Option Ty) (p : Pat) (e : Expr) (k : TypedArm → Asks) (f : TypedArm → Typed) → ((b : Binding) → Types σ (in_arm Γ b.1) e t (typed σ (in_arm Γ b.1) e t)) → Follows k f
+    → Comes (an_arm σ Γ u t p e k) (typed_arm σ Γ u t p e >>= f)
+at_arm σ Γ u t p e k f each h =
+    subst (Comes (an_arm σ Γ u t p e k)) (sym (assoc (pattern_at σ.types u p) _ f))
+    (at_first (pattern_at σ.types u p) _ _ (λ b. at_part_in σ (in_arm Γ b.1) e t (typed σ (in_arm Γ b.1) e t) _ (λ y. Ok (arm_of b y)) f (each b) (λ y. h (arm_of b y))))
+
 mutual
   types : (σ : Setting) (Γ : List Variable) (e : Expr) (t : Option Ty) → Types σ Γ e t (typed σ Γ e t)
   types σ Γ (E.unary s Neg o e) t = by_rule (at_part σ Γ e t (typed σ Γ e t) _ _ (types σ Γ e t) (λ a. itself))
@@ -117,6 +125,13 @@ mutual
   types σ Γ (E.choice s None c a b) t = by_rule
       (at_part σ Γ c (Some bool) (typed σ Γ c (Some bool)) _ _ (types σ Γ c (Some bool)) (λ x. at_part σ Γ a t (typed σ Γ a t) _ _ (types σ Γ a t)
       (λ y. at_part σ Γ b (given t y) (typed σ Γ b (given t y)) _ _ (types σ Γ b (given t y)) (λ z. itself))))
+  types σ Γ (E.branch s (Some p) c e) t = by_rule
+      (at_part σ Γ c None (typed σ Γ c None) _ _ (types σ Γ c None) (λ a. at_arm σ Γ (ty_of a) (Some unit) p e _ _ (λ b. types σ (in_arm Γ b.1) e (Some unit)) (λ x. itself)))
+  types σ Γ (E.choice s (Some p) c d e) t = by_rule
+      (at_part σ Γ c None (typed σ Γ c None) _ _ (types σ Γ c None)
+      (λ a. at_arm σ Γ (ty_of a) t p d _ _ (λ b. types σ (in_arm Γ b.1) d t) (λ x. at_part σ Γ e (given t x.body) (typed σ Γ e (given t x.body)) _ _ (types σ Γ e (given t x.body)) (λ z. itself))))
+  types σ Γ (E.matching s e as') t = by_rule
+      (at_part σ Γ e None (typed σ Γ e None) _ _ (types σ Γ e None) (λ a. at_arms σ Γ (ty_of a) t tree.no_arms as' _ _ (λ p. itself)))
   types σ Γ (E.repeat s None c b) t = by_rule
       (at_part (outside σ) Γ c (Some bool) (typed (outside σ) Γ c (Some bool)) _ _ (types (outside σ) Γ c (Some bool))
       (λ x. at_part (looping σ) Γ b (Some unit) (typed (looping σ) Γ b (Some unit)) _ _ (types (looping σ) Γ b (Some unit)) (λ y. itself)))
@@ -154,6 +169,13 @@ mutual
       (at_fields σ Γ s m (fields_behind left) fs (λ as'. k (tree.more a as')) (λ as'. f (tree.more a as')) (λ as'. h (tree.more a as'))) in
       subst (Comes (each_field σ Γ s m left (E.with_field r x e fs) k)) (sym (assoc (next_field σ.types m left x) _ f))
       (at_first (next_field σ.types m left x) _ _ (λ u. at_part_in σ Γ e (Some u) (typed σ Γ e (Some u)) _ _ f (types σ Γ e (Some u)) (λ a. after u a)))
+
+  at_arms : (σ : Setting) (Γ : List Variable) (u : Ty) (t : Option Ty) (made : TypedArms) (as' : E.Arms) (k : TypedArms × Option Ty → Asks) (f : TypedArms × Option Ty → Typed) → Follows k f
+      → Comes (each_arm σ Γ u t made as' k) (typed_arms σ Γ u t made as' >>= f)
+  at_arms σ Γ u t made E.no_arms k f h = h (made, t)
+  at_arms σ Γ u t made (E.with_arm r p e as') k f h =
+      subst (Comes (each_arm σ Γ u t made (E.with_arm r p e as') k)) (sym (assoc (typed_arm σ Γ u t p e) _ f))
+      (at_arm σ Γ u t p e _ _ (λ b. types σ (in_arm Γ b.1) e t) (λ x. at_arms σ Γ u (given t x.body) (and_arm made x) as' k f h))
 
 pub typed_by_rules : TypedByRules
 typed_by_rules σ Γ e t = types σ Γ e t

@@ -1,5 +1,5 @@
 -- What typing gives fits: each part has the type that its place asks for.
-use Rattle.std.proofs.Common.{◌≡◌, ◌∙◌, inl, inr, ℕ, zero, suc, ◌==◌, Bool, true, false, List, [], ◌∷◌, ◌++◌, length, Option, Some, None, Result, Ok, Err, map, refl, ap, ap₂, sym, subst, arith}
+use Rattle.std.proofs.Common.{◌≡◌, ◌∙◌, inl, inr, ℕ, suc, ◌==◌, Bool, true, false, List, [], ◌∷◌, ◌++◌, length, Option, Some, None, Result, Ok, Err, map, refl, ap, ap₂, sym, subst, arith}
 use Rattle.std.specs.Prelude.{ℤ, slice_get, if◌then◌else◌}
 use Rattle.logic_term.proofs.FreeLaw.{same_test}
 use Rattle.text_core.specs.declared.name.Name.{Name}
@@ -33,18 +33,17 @@ use Rattle.source_trees.specs.TypeTree.{TypeTree}
 use Rattle.source_trees.specs.TypeTreeView.{span_of as type_span}
 use Rattle.type_check.specs.declared.assertion.Assertion.{Assertion}
 use Rattle.type_check.specs.declared.heading.Callee.{Callee}
-use Rattle.type_check.specs.declared.heading.Heading.{Heading}
 use Rattle.type_check.specs.declared.operands.Operands.{Operands}
 use Rattle.type_check.specs.declared.operands.Order.{Order}
 use Rattle.type_check.specs.declared.operands.Order.TheVariants as order
 use Rattle.type_check.specs.declared.scope.Declared.{Declared}
 use Rattle.type_check.specs.declared.scope.Found.{Found}
-use Rattle.type_check.specs.declared.program.Signature.{Signature}
 use Rattle.type_check.specs.declared.scope.Variable.{Variable}
 use Rattle.type_check.specs.declared.statements.Step.{Step}
 use Rattle.type_check.specs.declared.typed.TypedStmt.{TypedStmt}
 use Rattle.text_core.specs.declared.refusal.SourceError.{SourceError}
 use Rattle.type_check.specs.Answers.{mismatch, unbuilt, unknown_name, not_mutable, with_some, gather}
+use Rattle.type_check.specs.Arms.{in_arm, and_arm}
 use Rattle.type_check.specs.Makers.{Maker, maker_of}
 use Rattle.type_check.specs.Functions.{function_from}
 use Rattle.type_check.specs.Leaves.{leaves}
@@ -52,12 +51,12 @@ use Rattle.type_check.specs.Scope.{found}
 use Rattle.type_check.specs.Breaks.{breaks}
 use Rattle.type_check.specs.Setting.{Setting, within_loop, looping, outside}
 use Rattle.type_check.specs.Terms.{assertion}
-use Rattle.type_check.specs.TypedExpr.{TypedExpr, TypedStmts, TypedExprs}
+use Rattle.type_check.specs.TypedExpr.{TypedExpr, TypedStmts, TypedExprs, TypedArms}
 use Rattle.type_check.specs.TypedExpr as tree
 use Rattle.type_check.specs.TypedExprView.{ty_of, stmt_of, stmts_of}
 use Rattle.type_check.specs.Types.{same_ty, is_signed_ty, is_built, are_built}
 use Rattle.type_check.specs.Typing.{Typed, fit, literal_kind, literal_of, literal, negated, is_bare, order_without, order_of, operands_of, operands, operation, operated, cast_parts, cast_from, widened, may_write, if_mutable, writing, assigned}
-use Rattle.type_check.specs.Typing.{is_updated, updated, local_of, made_alone, named_by, named, Called, of_function, of_maker, field_tys, maker_called, constructor_called, or_constructor, unless_local, called_by, callee_of, params_of, how_many, first_of, rest_of, call_of, called, block_ty, declared, Opened, opened, typed_stmt, behind, without_last, closed, asked, given, choice_ty, cause_of, panicked, nothing, returned, bare_return, endless, in_a_loop, invariant_by, invariant_of, listed, parts_of, tupled, is_boxed, part_number, part_if, field_of, part_by, parted, selected, typed, typed_stmts, typed_args, typed_fields}
+use Rattle.type_check.specs.Typing.{is_updated, updated, local_of, made_alone, named_by, named, Called, of_function, of_maker, field_tys, maker_called, constructor_called, or_constructor, unless_local, called_by, callee_of, params_of, how_many, first_of, rest_of, call_of, called, block_ty, declared, Opened, opened, typed_stmt, behind, without_last, closed, asked, given, choice_ty, cause_of, panicked, nothing, returned, bare_return, endless, in_a_loop, invariant_by, invariant_of, listed, parts_of, tupled, is_boxed, part_number, part_if, field_of, part_by, parted, selected, typed, typed_stmts, typed_args, typed_fields, typed_arm, typed_arms}
 use Rattle.type_check.specs.Typing.{not_next, built_field, next_field, fields_behind, no_field_left, literal_made}
 use Rattle.type_check.specs.WellTyped.{unit, Surroundings, IsBuilt, PartsAreBuilt, AllBuilt, field_at, part_ty, tys_of_exprs, PartsFit, is_arithmetic, is_equality, operation_ty, is_signed, IsOf, IsOfOrLeaves, SpeaksOf, EachSpeaks, IsWellTyped, StatementsFit, ArgumentsFit}
 use Rattle.type_check.specs.Written.{name_alone, written_type, written_or_none, declared_by, step_of}
@@ -68,45 +67,11 @@ use Rattle.logic_elab.proofs.SameSorts.{equal_types}
 use Rattle.type_check.proofs.Speaking.{assertion_speaks}
 use Rattle.type_check.proofs.StatementLists.{block_ty_after, stmt_ty}
 use Rattle.type_check.proofs.BuiltTypes.{both, built_is_built}
+pub use Rattle.type_check.proofs.Sound.{Meets, Sound, MayAsk, Around, fit_same}
+use Rattle.type_check.proofs.Sound.{built_at, fit_sound, asked_built, given_built, types-append, all_built_append}
+use Rattle.type_check.proofs.ArmsFit.{AllMeet, arm_meets, arm_sound, matched_sound, chosen_sound, branched_sound}
 use Rattle.type_check.proofs.FoundParts.{field_has_type, number_has_type}
 use Rattle.type_check.proofs.WrittenTypes.{type_built}
-
-abbrev pub Meets : Option Ty → TypedExpr → Type 0
-Meets None e = Unit {0}
-Meets (Some t) e = ty_of e ≡ t
-
-pub record Sound (σ : Setting) (Γ : List Variable) (t : Option Ty) (e : TypedExpr) : Type 0 where
-  pub well : IsWellTyped (surroundings σ) (types Γ) e
-  pub meets : Meets t e
-  pub built : IsBuilt (ty_of e)
-
--- what is expected is a built type
-abbrev pub MayAsk : Option Ty → Type 0
-MayAsk None = Unit {0}
-MayAsk (Some t) = IsBuilt t
-
--- the types that stand around an expression are built: those of functions, of variables and of the answer
-pub record Around (σ : Setting) (Γ : List Variable) : Type 0 where
-  pub functions : (j : ℕ) (g : Signature) → slice_get (signatures_at σ.headings) j ≡ Some g → AllBuilt g.params × IsBuilt g.answer
-  pub variables : AllBuilt (types Γ)
-  pub answer : IsBuilt σ.answer
-
-built_at : (ts : List Ty) (j : ℕ) (t : Ty) → AllBuilt ts → slice_get ts j ≡ Some t → IsBuilt t
-built_at [] j t h p = absurd (cc)
-built_at (u ∷ ts) zero t h p = let q : u ≡ t = cc in subst IsBuilt q h.0
-built_at (u ∷ ts) (suc j) t h p = built_at ts j t h.1 p
-
-pub fit_same : (t : Option Ty) (s : Span) (e r : TypedExpr) → fit t s e ≡ Ok r → (e ≡ r) × Meets t e
-unfolding fit
-fit_same None s e r p = (same_ok _ _ p, tt)
-fit_same (Some t) s e r p =
-    let c = held (same_ty (ty_of e) t) (Ok e) (mismatch s) r p in
-    (same_ok _ _ c.1, equal_types (ty_of e) t c.0)
-
-fit_sound : (σ : Setting) (Γ : List Variable) (t : Option Ty) (s : Span) (e r : TypedExpr) → IsWellTyped (surroundings σ) (types Γ) e → IsBuilt (ty_of e) → fit t s e ≡ Ok r → Sound σ Γ t r
-fit_sound σ Γ t s e r w b p =
-    let c = fit_same t s e r p in
-    subst (Sound σ Γ t) c.0 (record { well = w; meets = c.1; built = b })
 
 -- ---- literals and names
 
@@ -387,10 +352,6 @@ closed_sound : (σ : Setting) (Γ : List Variable) (t : Option Ty) (s : Span) (s
 unfolding closed
 closed_sound σ Γ t s ss r h b p = fit_sound σ Γ t s (tree.block (block_ty t ss) s ss) r h b p
 
-types-append : (Γ : List Variable) (v : Variable) → types (Γ ++ v ∷ []) ≡ types Γ ++ v.ty ∷ []
-types-append [] v = refl
-types-append (u ∷ Γ) v = ap (λ ts. u.ty ∷ ts) (types-append Γ v)
-
 length-types : (Γ : List Variable) → length (types Γ) ≡ length Γ
 length-types [] = refl
 length-types (v ∷ Γ) = ap suc (length-types Γ)
@@ -427,10 +388,6 @@ invariants_speak Γ (a ∷ as') is p =
     (joined_speak (length (types Γ)) o.0 rest.0 (attribute_speaks Γ a o.0 o.1) (invariants_speak Γ as' rest.0 rest.1))
 
 -- ---- what leaves
-
-asked_built : (t : Option Ty) → MayAsk t → IsBuilt (asked t)
-asked_built None h = tt
-asked_built (Some u) h = h
 
 panicked_sound : (σ : Setting) (Γ : List Variable) (t : Option Ty) (s : Span) (m : PanicMacro) (r : TypedExpr) → MayAsk t → panicked t s m ≡ Ok r → Sound σ Γ t r
 panicked_sound σ Γ None s m r h p = subst (Sound σ Γ None) (same_ok (tree.panics unit s (cause_of m)) r p) (record { well = tt; meets = tt; built = tt })
@@ -476,10 +433,6 @@ sides_fit : (t : Option Ty) (y z : TypedExpr) (b : Bool) → leaves y ≡ b → 
     → let u = if b then ty_of z else ty_of y in IsOfOrLeaves u y × IsOfOrLeaves u z
 sides_fit t y z true q k h = (inr (q, k), inl refl)
 sides_fit t y z false q k h = (inl refl, inl h)
-
-given_built : (b : Bool) (t : Option Ty) (u : Ty) → MayAsk t → IsBuilt u → MayAsk (if b then t else Some u)
-given_built true t u h k = h
-given_built false t u h k = k
 
 one_built : (b : Bool) (t u : Ty) → IsBuilt t → IsBuilt u → IsBuilt (if b then t else u)
 one_built true t u h k = h
@@ -577,10 +530,6 @@ block_sound σ Γ t s o end r h k b p =
     (subst (λ u. StatementsFit (surroundings σ) (types Γ) u (stmts_of o.stmts end)) (sym (block_ty_after t o.stmts end)) (h (block_ty t end) end k)) (subst IsBuilt (sym (block_ty_after t o.stmts end)) b) p
 
 -- ---- types of scopes
-
-all_built_append : (ts : List Ty) (t : Ty) → AllBuilt ts → IsBuilt t → AllBuilt (ts ++ t ∷ [])
-all_built_append [] t h k = (k, tt)
-all_built_append (u ∷ ts) t h k = (h.0, all_built_append ts t h.1 k)
 
 declared_built : (σ : Setting) (Γ : List Variable) (d : Option Declared) (a : TypedExpr) → Around σ Γ → IsBuilt (ty_of a) → Around σ (declared Γ d a)
 declared_built σ Γ None a h k = h
@@ -701,6 +650,25 @@ mutual
       let sz = typed_sound σ Γ b (given t y.0) z.0 ho (given_built (leaves y.0) t (ty_of y.0) ht sy.built) z.1 in
       let sides = sides_fit t y.0 z.0 (leaves y.0) refl sz.built sz.meets in
       fit_sound σ Γ t s (tree.choice (choice_ty y.0 z.0) s x.0 y.0 z.0) r (sx.meets, sides.0, sides.1, sx.well, sy.well, sz.well) (one_built (leaves y.0) (ty_of z.0) (ty_of y.0) sz.built sy.built) z.2
+  typed_sound σ Γ (E.branch s (Some w) c d) t r ho ht p =
+      let a = bound (typed σ Γ c None) _ r p in
+      let x = bound (typed_arm σ Γ (ty_of a.0) (Some unit) w d) _ r a.2 in
+      let sa = typed_sound σ Γ c None a.0 ho tt a.1 in
+      branched_sound σ Γ t s a.0 x.0 r sa.well (arm_sound σ Γ (ty_of a.0) (Some unit) w (λ b. typed σ (in_arm Γ b.1) d (Some unit)) x.0 ho (λ b y hb q. typed_sound σ (in_arm Γ b.1) d (Some unit) y hb tt q) x.1) x.2
+  typed_sound σ Γ (E.choice s (Some w) c d e) t r ho ht p =
+      let a = bound (typed σ Γ c None) _ r p in
+      let x = bound (typed_arm σ Γ (ty_of a.0) t w d) _ r a.2 in
+      let z = bound (typed σ Γ e (given t x.0.body)) _ r x.2 in
+      let sa = typed_sound σ Γ c None a.0 ho tt a.1 in
+      let sx = arm_sound σ Γ (ty_of a.0) t w (λ b. typed σ (in_arm Γ b.1) d t) x.0 ho (λ b y hb q. typed_sound σ (in_arm Γ b.1) d t y hb ht q) x.1 in
+      let hz = given_built (leaves x.0.body) t (ty_of x.0.body) ht sx.body.built in
+      chosen_sound σ Γ t s a.0 x.0 z.0 r ht sa.well sx (typed_sound σ Γ e (given t x.0.body) z.0 ho hz z.1) z.2
+  typed_sound σ Γ (E.matching s e as') t r ho ht p =
+      let a = bound (typed σ Γ e None) _ r p in
+      let q = bound (typed_arms σ Γ (ty_of a.0) t tree.no_arms as') _ r a.2 in
+      let sa = typed_sound σ Γ e None a.0 ho tt a.1 in
+      let m = arms_sound σ Γ (ty_of a.0) t tree.no_arms as' q.0 ho ht tt q.1 in
+      matched_sound σ Γ t s a.0 q.0 r sa.well m.0 m.1 q.2
   typed_sound σ Γ (E.repeat s None c b) t r ho ht p =
       let x = bound (typed (outside σ) Γ c (Some bool)) _ r p in
       let y = bound (typed (looping σ) Γ b (Some unit)) _ r x.2 in
@@ -769,3 +737,10 @@ mutual
       let n = next_sound σ.types m left x u.0 u.1 in
       let sa = typed_sound σ Γ e (Some u.0) a.0 ho n.built a.1 in
       subst (FieldsSound σ Γ m left) (same_ok _ _ c.2) (one_field σ Γ m left u.0 a.0 c.0 n sa.well sa.meets (fields_sound σ Γ s m (fields_behind left) fs c.0 ho c.1))
+
+  arms_sound : (σ : Setting) (Γ : List Variable) (u : Ty) (t : Option Ty) (made : TypedArms) (as' : E.Arms) (r : TypedArms × Option Ty) → Around σ Γ → MayAsk t → AllMeet σ Γ u t made → typed_arms σ Γ u t made as' ≡ Ok r → AllMeet σ Γ u r.1 r.0 × MayAsk r.1
+  arms_sound σ Γ u t made E.no_arms r ho ht hm p = subst (λ r. AllMeet σ Γ u r.1 r.0 × MayAsk r.1) (same_ok (made, t) r p) (hm, ht)
+  arms_sound σ Γ u t made (E.with_arm s w e as') r ho ht hm p =
+      let x = bound (typed_arm σ Γ u t w e) _ r p in
+      let m = arm_sound σ Γ u t w (λ b. typed σ (in_arm Γ b.1) e t) x.0 ho (λ b y hb q. typed_sound σ (in_arm Γ b.1) e t y hb ht q) x.1 in
+      arms_sound σ Γ u (given t x.0.body) (and_arm made x.0) as' r ho (given_built (leaves x.0.body) t (ty_of x.0.body) ht m.body.built) (arm_meets σ Γ u t made x.0 hm m) x.2

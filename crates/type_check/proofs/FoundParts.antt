@@ -1,20 +1,16 @@
 -- Fields and parts: where there are none, and that what is found has its type.
-use Rattle.std.proofs.Common.{◌≡◌, ◌∙◌, ℕ, zero, suc, ◌+◌, ◌^◌, ◌<◌, length, get_or, Bool, true, false, List, [], ◌∷◌, Option, Some, None, Err, refl, ap, sym, subst, arith}
+use Rattle.std.proofs.Common.{◌≡◌, ◌∙◌, ℕ, suc, ◌+◌, ◌^◌, Bool, true, false, List, [], ◌∷◌, Option, Some, None, refl, ap, sym, subst, arith}
 use Rattle.std.specs.Option.{option_map}
 use Rattle.std.specs.Prelude.{slice_get, ◌==◌, if◌then◌else◌}
 use Rattle.text_core.specs.declared.name.Name.{Name}
-use Rattle.text_core.specs.declared.span.Span.{Span}
 use Rattle.logic_term.specs.declared.declaration.AdtDecl.{AdtDecl}
 use Rattle.logic_term.specs.declared.declaration.FieldDecl.{FieldDecl}
-use Rattle.logic_term.specs.declared.declaration.VariantDecl.{VariantDecl}
 use Rattle.logic_term.specs.declared.kinds.TyUnary.{TyUnary}
 use Rattle.logic_term.specs.declared.kinds.TyUnary.TheVariants as unary
-use Rattle.logic_term.specs.Ty.{Ty, Tys, int, bool, math_int, tuple, adt, no_tys, and_ty}
+use Rattle.logic_term.specs.Ty.{Ty, Tys, tuple, adt}
 use Rattle.logic_term.specs.declared.ty.CompoundTy.{CompoundTy}
 use Rattle.logic_term.specs.declared.ty.CompoundTy.TheVariants as compound
 use Rattle.logic_term.specs.TyView.{compound_of, made_by}
-use Rattle.source_trees.specs.declared.path.Segment.{Segment}
-use Rattle.type_check.specs.Answers.{unknown_name}
 use Rattle.type_check.specs.Makers.{arguments_from}
 use Rattle.constructors.specs.FieldNames.{numbered}
 use Rattle.type_check.specs.Typing.{field_from, field_of, part_of, part_if, with_number}

@@ -1,36 +1,18 @@
 -- What is found in a scope and among functions stands there.
-use Rattle.std.proofs.Common.{◌≡◌, ℕ, zero, suc, ◌+◌, ◌<◌, ◌==◌, Bool, true, false, List, [], ◌∷◌, ◌++◌, length, get_or, take, map, Option, Some, None, refl, ap, sym, subst, ◌∙◌, add-one, ◌≢◌, arith}
+use Rattle.std.proofs.Common.{◌≡◌, ℕ, zero, suc, ◌+◌, ◌<◌, ◌==◌, Bool, true, false, List, [], ◌∷◌, ◌++◌, length, get_or, take, Option, Some, None, refl, ap, sym, subst, ◌∙◌, add-one, ◌≢◌, arith}
 use Rattle.std.proofs.lemmas.Bool.Decides.{nat_tests}
 use Rattle.std.proofs.Math.Seq.{take-suc, take-length}
 use Rattle.std.proofs.lemmas.List.{length-take}
 use Rattle.std.specs.Prelude.{slice_get, if◌then◌else◌}
 use Rattle.std.proofs.lemmas.Option.{slice_get_within}
 use Rattle.text_core.specs.declared.name.Name.{Name}
-use Rattle.logic_term.specs.Ty.{Ty}
 use Rattle.type_check.specs.declared.heading.Callee.{Callee}
 use Rattle.type_check.specs.declared.heading.Heading.{Heading}
-use Rattle.type_check.specs.declared.program.Signature.{Signature}
 use Rattle.type_check.specs.declared.scope.Found.{Found}
 use Rattle.type_check.specs.declared.scope.Variable.{Variable}
-use Rattle.type_check.specs.Checked.{type_of}
+pub use Rattle.type_check.specs.Around.{types, signature_at, signatures_at, surroundings}
 use Rattle.type_check.specs.Functions.{callee_at, function_from}
 use Rattle.type_check.specs.Scope.{at_place, found, found_from}
-use Rattle.type_check.specs.Setting.{Setting}
-use Rattle.type_check.specs.WellTyped.{Surroundings}
-
--- the types of the variables in scope
-abbrev pub types : List Variable → List Ty
-types Γ = map type_of Γ
-
-abbrev pub signature_at : Heading → Signature
-signature_at h = h.signature
-
-abbrev pub signatures_at : List Heading → List Signature
-signatures_at σ = map signature_at σ
-
--- what stands around a body, as its typed tree sees it
-abbrev pub surroundings : Setting → Surroundings
-surroundings σ = record { types = σ.types; signatures = signatures_at σ.headings; answer = σ.answer; in_loop = σ.in_loop }
 
 better : (P : Found → Type 0) (b : Bool) (f : Found) (best : Option Found) → P f → ((w : Found) → best ≡ Some w → P w) → (w : Found) → (if b then Some f else best) ≡ Some w → P w
 better P true f best here before w p = let q : f ≡ w = cc in subst P q here

@@ -1,18 +1,11 @@
 -- What makes a value is a struct or a variant of the declared types, with its fields.
-use Rattle.std.proofs.Common.{◌≡◌, ◌∙◌, ℕ, ◌==◌, ◌&&◌, Bool, true, false, List, [], ◌∷◌, Option, Some, None, Ok, map, refl, ap, subst}
-use Rattle.std.specs.Prelude.{slice_get, if◌then◌else◌}
-use Rattle.text_core.specs.declared.name.Name.{Name}
+use Rattle.std.proofs.Common.{◌≡◌, ◌==◌, ◌&&◌, [], Option, Some, None, Ok, map, subst}
 use Rattle.text_core.specs.declared.span.Span.{Span}
-use Rattle.logic_term.specs.declared.declaration.AdtDecl.{AdtDecl}
-use Rattle.logic_term.specs.declared.declaration.VariantDecl.{VariantDecl}
 use Rattle.logic_term.specs.declared.declaration.VariantKind.{VariantKind}
-use Rattle.logic_term.specs.Theory.{declared as decls, field_ty, fields_of, variant_of}
+use Rattle.logic_term.specs.Theory.{declared as decls, field_ty}
 use Rattle.logic_term.specs.Ty.{Ty, Tys, adt}
 use Rattle.logic_term.specs.TyView.{tys_of}
-use Rattle.rs_types.specs.Table.{number_of}
 use Rattle.source_trees.specs.declared.path.PathNode.{PathNode}
-use Rattle.source_trees.specs.declared.path.PathNode.TheVariants.{Names}
-use Rattle.source_trees.specs.declared.path.Segment.{Segment}
 use Rattle.type_check.specs.Answers.{mismatch, unbuilt}
 use Rattle.constructors.proofs.Declaration.{constructor_found}
 use Rattle.constructors.specs.Constructors.{Constructor, constructor_of, same_kind}

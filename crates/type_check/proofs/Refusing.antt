@@ -1,7 +1,6 @@
 -- Refusals of program code have causes.
 use Rattle.std.proofs.Common.{◌≡◌, ◌⊎◌, inl, inr, ℕ, ◌==◌, Bool, true, false, List, [], ◌∷◌, length, Option, Some, None, Result, Ok, Err, refl, ap, sym, ◌∙◌}
 use Rattle.std.specs.Prelude.{ℤ, if◌then◌else◌}
-use Rattle.text_core.specs.declared.name.Name.{Name}
 use Rattle.text_core.specs.declared.refusal.SourceError.{SourceError}
 use Rattle.text_core.specs.declared.span.Span.{Span}
 use Rattle.source_kinds.specs.declared.kinds.BinaryOp.{BinaryOp}
@@ -29,8 +28,6 @@ use Rattle.source_trees.specs.Pat as P
 use Rattle.source_trees.specs.TypeTree as W
 use Rattle.source_trees.specs.TypeTreeView.{span_of as type_span}
 use Rattle.type_check.specs.declared.assertion.Assertion.{Assertion}
-use Rattle.type_check.specs.declared.heading.Callee.{Callee}
-use Rattle.type_check.specs.declared.heading.Heading.{Heading}
 use Rattle.type_check.specs.declared.operands.Operands.{Operands}
 use Rattle.type_check.specs.declared.operands.Order.{Order}
 use Rattle.type_check.specs.declared.operands.Order.TheVariants as order
@@ -39,17 +36,17 @@ use Rattle.type_check.specs.declared.scope.Found.{Found}
 use Rattle.type_check.specs.declared.scope.Variable.{Variable}
 use Rattle.type_check.specs.declared.statements.Step.{Step}
 use Rattle.type_check.specs.Answers.{◌>>=◌, unknown_name, mismatch, unbuilt, not_mutable, with_some, gather}
-use Rattle.type_check.specs.Causes.{IsMismatch, IsUnbuilt, IsNoValue, IsNotWritten, IsNotCalled, IsNoPart, IsNoField, IsNoType, IsNoTarget, root_name, Causes, CausesInStmts, CausesInArgs, CausesInFields}
+use Rattle.type_check.specs.Arms.{TypedArm, Binding, arm_of, arm_from, pattern_at, in_arm, and_arm, or_else_arm}
+use Rattle.type_check.specs.Causes.{IsNoPattern, IsMismatch, IsUnbuilt, IsNoValue, IsNotWritten, IsNoPart, IsNoField, IsNoType, root_name, Causes, CausesInStmts, CausesInArgs, CausesInFields, CausesInArms}
 use Rattle.type_check.specs.Makers.{Maker, maker_of}
-use Rattle.type_check.specs.Scope.{found}
 use Rattle.type_check.specs.Breaks.{breaks}
 use Rattle.type_check.specs.Setting.{Setting, looping, outside}
-use Rattle.type_check.specs.TypedExpr.{TypedExpr, TypedStmts, TypedExprs}
+use Rattle.type_check.specs.TypedExpr.{TypedExpr, TypedStmts, TypedExprs, TypedArms}
 use Rattle.type_check.specs.TypedExpr as tree
 use Rattle.type_check.specs.TypedExprView.{ty_of, stmts_of}
 use Rattle.type_check.specs.Types.{same_ty, is_signed_ty, is_built}
 use Rattle.type_check.specs.Typing.{Typed, fit, literal_kind, literal_of, literal, negated, is_bare, order_of, operands_of, operands, operation, operated, cast_parts, cast_from, widened, may_write, if_mutable, writing, assigned}
-use Rattle.type_check.specs.Typing.{is_updated, updated, local_of, made_alone, named_by, named, Called, of_function, of_maker, callee_of, params_of, call_of, how_many, first_of, rest_of, called, asked, block_ty, declared, behind, typed_stmt, without_last, closed, given, choice_ty, cause_of, nothing, returned, endless, in_a_loop, invariant_by, invariant_of, parts_of, tupled, is_boxed, part_number, part_if, field_of, part_by, parted, selected, next_field, fields_behind, no_field_left, literal_made, typed, typed_stmts, typed_args, typed_fields}
+use Rattle.type_check.specs.Typing.{is_updated, updated, local_of, made_alone, named_by, named, Called, of_function, of_maker, callee_of, params_of, call_of, how_many, first_of, rest_of, called, asked, block_ty, declared, behind, typed_stmt, without_last, closed, given, choice_ty, cause_of, nothing, returned, endless, in_a_loop, invariant_by, invariant_of, parts_of, tupled, is_boxed, part_number, part_if, field_of, part_by, parted, selected, next_field, fields_behind, no_field_left, literal_made, typed, typed_stmts, typed_args, typed_fields, typed_arm, typed_arms}
 use Rattle.type_check.specs.WellTyped.{unit, is_arithmetic, operation_ty, tys_of_exprs}
 use Rattle.type_check.specs.Written.{name_alone, written_type, written_or_none, name_or, declared_by, step_of}
 use Rattle.type_check.proofs.Bound.{yes}
@@ -337,8 +334,23 @@ in_no_loop : (k : Bool) (s : Span) (a : TypedExpr) (e : SourceError) → in_a_lo
 in_no_loop true s a e p = absurd (no_type a e p)
 in_no_loop false s a e p = let q : mismatch s ≡ e = cc in (refl, sym q)
 
+no_arm : (x : TypedArm) (e : SourceError) → yes x ≡ Err e → ⊥
+no_arm x e p = cc
+
 no_args : (es : TypedExprs) (e : SourceError) → yes es ≡ Err e → ⊥
 no_args es e p = cc
+
+-- the pattern of an arm is refused, or its body
+arm_stops : (σ : Setting) (Γ : List Variable) (v : TypedExpr) (w : P.Pat) (body : Binding → Typed) (cause : List Variable → Type 0) (e : SourceError) → ((b : Binding) → body b ≡ Err e → cause (in_arm Γ b.1))
+    → arm_from (pattern_at σ.types (ty_of v) w) body ≡ Err e → IsNoPattern σ v w e ⊎ ((b : Binding) × (pattern_at σ.types (ty_of v) w ≡ Ok b) × cause (in_arm Γ b.1))
+arm_stops σ Γ v w body cause e each p =
+    elim (stop (pattern_at σ.types (ty_of v) w) _ e p) as (λ _. IsNoPattern σ v w e ⊎ ((b : Binding) × (pattern_at σ.types (ty_of v) w ≡ Ok b) × cause (in_arm Γ b.1))) [
+      | inl q ↦ inl q
+      | inr b ↦ elim (stop (body b.0) _ e b.2) as (λ _. IsNoPattern σ v w e ⊎ ((b : Binding) × (pattern_at σ.types (ty_of v) w ≡ Ok b) × cause (in_arm Γ b.1))) [
+        | inl q ↦ inr (b.0, b.1, each b.0 q)
+        | inr y ↦ absurd (no_arm (arm_of b.0 y.0) e y.2)
+      ]
+    ]
 
 -- ---- expressions
 
@@ -450,6 +462,33 @@ mutual
           ]
         ]
       ]
+  typed_stops σ Γ (E.branch s (Some w) c a) t e p =
+      elim (stop (typed σ Γ c None) _ e p) as (λ _. Causes σ Γ (E.branch s (Some w) c a) e) [
+        | inl q ↦ inr (inl (typed_stops σ Γ c None e q))
+        | inr v ↦ elim (stop (typed_arm σ Γ (ty_of v.0) (Some unit) w a) _ e v.2) as (λ _. Causes σ Γ (E.branch s (Some w) c a) e) [
+          | inl q ↦ inr (inr (v.0, v.1, arm_stops σ Γ v.0 w (λ b. typed σ (in_arm Γ b.1) a (Some unit)) (λ Δ. Causes σ Δ a e) e (λ b h. typed_stops σ (in_arm Γ b.1) a (Some unit) e h) q))
+          | inr x ↦ inl (fit_stops t s (tree.matched unit s v.0 (or_else_arm (ty_of v.0) x.0 (nothing s))) e x.2)
+        ]
+      ]
+  typed_stops σ Γ (E.choice s (Some w) c a b) t e p =
+      elim (stop (typed σ Γ c None) _ e p) as (λ _. Causes σ Γ (E.choice s (Some w) c a b) e) [
+        | inl q ↦ inr (inl (typed_stops σ Γ c None e q))
+        | inr v ↦ elim (stop (typed_arm σ Γ (ty_of v.0) t w a) _ e v.2) as (λ _. Causes σ Γ (E.choice s (Some w) c a b) e) [
+          | inl q ↦ inr (inr (inl (v.0, v.1, arm_stops σ Γ v.0 w (λ b. typed σ (in_arm Γ b.1) a t) (λ Δ. Causes σ Δ a e) e (λ b h. typed_stops σ (in_arm Γ b.1) a t e h) q)))
+          | inr x ↦ elim (stop (typed σ Γ b (given t x.0.body)) _ e x.2) as (λ _. Causes σ Γ (E.choice s (Some w) c a b) e) [
+            | inl q ↦ inr (inr (inr (typed_stops σ Γ b (given t x.0.body) e q)))
+            | inr z ↦ inl (fit_stops t s (tree.matched (asked (given (given t x.0.body) z.0)) s v.0 (or_else_arm (ty_of v.0) x.0 z.0)) e z.2)
+          ]
+        ]
+      ]
+  typed_stops σ Γ (E.matching s c as') t e p =
+      elim (stop (typed σ Γ c None) _ e p) as (λ _. Causes σ Γ (E.matching s c as') e) [
+        | inl q ↦ inr (inl (typed_stops σ Γ c None e q))
+        | inr v ↦ elim (stop (typed_arms σ Γ (ty_of v.0) t tree.no_arms as') _ e v.2) as (λ _. Causes σ Γ (E.matching s c as') e) [
+          | inl q ↦ inr (inr (arms_stop σ Γ c v.0 t tree.no_arms as' e v.1 q))
+          | inr x ↦ inl (fit_stops t s (tree.matched (asked x.0.1) s v.0 x.0.0) e x.2)
+        ]
+      ]
   typed_stops σ Γ (E.repeat s None c b) t e p =
       elim (stop (typed (outside σ) Γ c (Some bool)) _ e p) as (λ _. Causes σ Γ (E.repeat s None c b) e) [
         | inl q ↦ inr (inl (typed_stops (outside σ) Γ c (Some bool) e q))
@@ -530,4 +569,12 @@ mutual
             | inr y ↦ absurd (no_args (tree.more v.0 y.0) e y.2)
           ]
         ]
+      ]
+
+  arms_stop : (σ : Setting) (Γ : List Variable) (c : Expr) (v : TypedExpr) (t : Option Ty) (made : TypedArms) (as' : E.Arms) (e : SourceError) → typed σ Γ c None ≡ Ok v → typed_arms σ Γ (ty_of v) t made as' ≡ Err e → CausesInArms σ Γ c as' e
+  arms_stop σ Γ c v t made E.no_arms e h p = absurd (cc)
+  arms_stop σ Γ c v t made (E.with_arm s w a as') e h p =
+      elim (stop (typed_arm σ Γ (ty_of v) t w a) _ e p) as (λ _. CausesInArms σ Γ c (E.with_arm s w a as') e) [
+        | inl q ↦ inl (v, h, arm_stops σ Γ v w (λ b. typed σ (in_arm Γ b.1) a t) (λ Δ. Causes σ Δ a e) e (λ b k. typed_stops σ (in_arm Γ b.1) a t e k) q)
+        | inr x ↦ inr (arms_stop σ Γ c v (given t x.0.body) (and_arm made x.0) as' e h x.2)
       ]

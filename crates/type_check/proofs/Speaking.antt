@@ -1,5 +1,5 @@
 -- The names that are free in formulas: variables in scope, and the answer.
-use Rattle.std.proofs.Common.{◌≡◌, ◌∙◌, ℕ, ◌<◌, true, List, length, Option, Some, None, Result, Ok, Err, ◌⊎◌, inl, inr, refl, sym, ap, subst}
+use Rattle.std.proofs.Common.{◌≡◌, ◌∙◌, ℕ, ◌<◌, true, List, length, Option, Some, None, Result, Ok, Err, ◌⊎◌, inl, inr, refl, sym, ap}
 use Rattle.std.specs.Option.{option_map}
 use Rattle.text_core.specs.declared.name.Name.{Name}
 use Rattle.text_core.specs.declared.refusal.SourceError.{SourceError}
@@ -17,7 +17,7 @@ use Rattle.logic_elab.specs.Sorts.{is_bool}
 use Rattle.logic_elab.proofs.SortLaw.{terms_speak_of_their_scope}
 use Rattle.type_check.specs.declared.scope.Found.{Found}
 use Rattle.type_check.specs.declared.scope.Variable.{Variable}
-use Rattle.type_check.specs.Answers.{◌>>=◌, mismatch}
+use Rattle.type_check.specs.Answers.{mismatch}
 use Rattle.type_check.specs.Scope.{found}
 use Rattle.type_check.specs.Terms.{symbol_of, answer_symbol, spoken, assertion, kept}
 use Rattle.type_check.specs.VariableNames.{variable_name, answer_name}

@@ -1,5 +1,5 @@
 -- Only a name alone gives a variable, and only parts of it give parts of one.
-use Rattle.std.proofs.Common.{◌≡◌, Bool, true, false, List, [], Option, Some, None, Ok, Err, refl, sym, subst}
+use Rattle.std.proofs.Common.{◌≡◌, Bool, true, false, List, [], Option, Some, None, Ok, refl, sym, subst}
 use Rattle.std.specs.Prelude.{ℕ, ℤ, slice_get, if◌then◌else◌}
 use Rattle.text_core.specs.declared.span.Span.{Span}
 use Rattle.source_kinds.specs.declared.kinds.BinaryOp.{BinaryOp}
@@ -29,7 +29,8 @@ use Rattle.type_check.specs.TypedExpr as tree
 use Rattle.type_check.specs.TypedExprView.{ty_of, stmts_of}
 use Rattle.type_check.specs.Types.{same_ty, is_signed_ty, is_built}
 use Rattle.type_check.specs.Typing.{fit, literal_kind, literal_of, literal, negated, is_bare, order_of, operands, operation, operated, cast_parts, cast_from, widened, is_mutable, may_write, assigned, is_updated, updated}
-use Rattle.type_check.specs.Typing.{local_of, made_alone, named_by, named, Called, of_function, of_maker, callee_of, params_of, call_of, called, asked, block_ty, without_last, closed, given, choice_ty, cause_of, nothing, returned, endless, invariant_of, parts_of, tupled, is_boxed, part_number, part_if, field_of, part_by, parted, selected, no_field_left, literal_made, typed, typed_stmts, typed_args, typed_fields}
+use Rattle.type_check.specs.Typing.{local_of, made_alone, named_by, named, Called, of_function, of_maker, callee_of, params_of, call_of, called, asked, block_ty, without_last, closed, given, choice_ty, cause_of, nothing, returned, endless, invariant_of, parts_of, tupled, is_boxed, part_number, part_if, field_of, part_by, parted, selected, no_field_left, literal_made, typed, typed_stmts, typed_args, typed_fields, typed_arm, typed_arms}
+use Rattle.type_check.specs.Arms.{or_else_arm}
 use Rattle.type_check.specs.Causes.{root_name}
 use Rattle.type_check.specs.Makers.{maker_of}
 use Rattle.type_check.specs.WellTyped.{unit, is_arithmetic, operation_ty, tys_of_exprs}
@@ -164,6 +165,19 @@ typed_named σ Γ (E.choice s None c a b) t r p =
     let y = bound (typed σ Γ a t) _ r x.2 in
     let z = bound (typed σ Γ b (given t y.0)) _ r y.2 in
     fit_named Γ None t s (tree.choice (choice_ty y.0 z.0) s x.0 y.0 z.0) r tt z.2
+typed_named σ Γ (E.branch s (Some w) c e) t r p =
+    let a = bound (typed σ Γ c None) _ r p in
+    let x = bound (typed_arm σ Γ (ty_of a.0) (Some unit) w e) _ r a.2 in
+    fit_named Γ None t s (tree.matched unit s a.0 (or_else_arm (ty_of a.0) x.0 (nothing s))) r tt x.2
+typed_named σ Γ (E.choice s (Some w) c d e) t r p =
+    let a = bound (typed σ Γ c None) _ r p in
+    let x = bound (typed_arm σ Γ (ty_of a.0) t w d) _ r a.2 in
+    let z = bound (typed σ Γ e (given t x.0.body)) _ r x.2 in
+    fit_named Γ None t s (tree.matched (asked (given (given t x.0.body) z.0)) s a.0 (or_else_arm (ty_of a.0) x.0 z.0)) r tt z.2
+typed_named σ Γ (E.matching s e as') t r p =
+    let a = bound (typed σ Γ e None) _ r p in
+    let q = bound (typed_arms σ Γ (ty_of a.0) t tree.no_arms as') _ r a.2 in
+    fit_named Γ None t s (tree.matched (asked q.0.1) s a.0 q.0.0) r tt q.2
 typed_named σ Γ (E.repeat s None c b) t r p =
     let x = bound (typed (outside σ) Γ c (Some bool)) _ r p in
     let y = bound (typed (looping σ) Γ b (Some unit)) _ r x.2 in

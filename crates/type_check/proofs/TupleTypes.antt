@@ -2,7 +2,7 @@
 use Rattle.std.proofs.Common.{◌≡◌, ◌∙◌, Option, Some, None, sym, ℕ, zero, suc, List, [], ◌∷◌, map, refl, ap}
 use Rattle.std.specs.Prelude.{MatchOption, slice_get}
 use Rattle.logic_term.specs.declared.declaration.AdtDecl.{AdtDecl}
-use Rattle.logic_term.specs.Ty.{Ty, Tys, tuple, no_tys, and_ty}
+use Rattle.logic_term.specs.Ty.{Ty, tuple, and_ty}
 use Rattle.logic_term.specs.TyView.{tys_of}
 use Rattle.type_check.specs.TypedExpr.{TypedExpr}
 use Rattle.type_check.specs.TypedExprView.{exprs_of, ty_of}

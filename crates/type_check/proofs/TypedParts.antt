@@ -1,12 +1,14 @@
 -- The parts of typed blocks and calls: their sizes, and the first refusals in them.
 use Rattle.std.proofs.Common.{◌≡◌, ◌∙◌, ℕ, zero, suc, ◌+◌, ◌≤◌, ◌<◌, Bool, true, false, max, List, [], ◌∷◌, length, get_or, drop, drop-cons, add-one, arith, refl, ap, sym, Option, Some, None}
 use Rattle.text_core.specs.declared.refusal.SourceError.{SourceError}
+use Rattle.type_check.specs.declared.typed.TypedArm.{TypedArm}
 use Rattle.type_check.specs.declared.typed.TypedStmt.{TypedStmt}
-use Rattle.type_check.specs.FirstBad.{bad_in, bad_in_stmts, bad_in_exprs}
+use Rattle.type_check.specs.FirstBad.{bad_in, bad_in_stmts, bad_in_exprs, bad_in_arms}
 use Rattle.type_check.specs.Answers.{or_else}
 use Rattle.type_check.specs.TypedExpr.{TypedExpr, TypedStmts, done, last, leaving, bind, run}
 use Rattle.type_check.specs.TypedExprFalls.{each_smaller}
-use Rattle.type_check.specs.TypedExprView.{typed_size, stmts_size, exprs_of, stmt_of, stmts_of}
+use Rattle.type_check.specs.TypedExprView.{typed_size, stmts_size, arms_of, exprs_of, stmt_of, stmts_of}
+use Rattle.type_check.proofs.ArmParts.{arm_smaller}
 
 some_size : (ss : TypedStmts) → 1 ≤ stmts_size ss
 some_size done = omega arith
@@ -74,4 +76,7 @@ bad_stmts_at ss i s q h =
     (stmt_bad (get_or ss i s).binds (get_or ss i s).value (stmts_of (drop (suc i) ss) done)
     ∙ ap (λ (x : TypedStmt). or_else (bad_in x.value) (bad_in_stmts (stmts_of (drop (suc i) ss) done))) (sym q))
 
-pub ruleset typed_parts = (each_smaller, begin_smaller, last_smaller, leaving_smaller, stmt_smaller, bad_at_last, bad_at_leaving, bad_exprs_at, bad_stmts_at)
+pub bad_arms_at : (xs : List TypedArm) (i : ℕ) (x : TypedArm) → x ≡ get_or xs i x → i < length xs → bad_in_arms (arms_of (drop i xs)) ≡ or_else (bad_in x.body) (bad_in_arms (arms_of (drop (i + 1) xs)))
+bad_arms_at xs i x q h = rw (add-one, drop-cons xs i x h) (ap (λ (y : TypedArm). or_else (bad_in y.body) (bad_in_arms (arms_of (drop (suc i) xs)))) (sym q))
+
+pub ruleset typed_parts = (arm_smaller, bad_arms_at, each_smaller, begin_smaller, last_smaller, leaving_smaller, stmt_smaller, bad_at_last, bad_at_leaving, bad_exprs_at, bad_stmts_at)

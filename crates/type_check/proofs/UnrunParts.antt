@@ -4,11 +4,13 @@ use Rattle.std.proofs.lemmas.Bool.Decides.{nat_tests}
 use Rattle.text_core.specs.declared.span.Span.{Span}
 use Rattle.logic_term.specs.Ty.{Ty, tuple}
 use Rattle.logic_term.specs.TyView.{tys_of}
+use Rattle.type_check.specs.declared.typed.TypedArm.{TypedArm}
 use Rattle.type_check.specs.declared.typed.TypedStmt.{TypedStmt}
 use Rattle.type_check.specs.TypedExpr.{TypedExpr, TypedStmts, done, last, leaving}
 use Rattle.type_check.specs.TypedExprFalls.{each_smaller}
-use Rattle.type_check.specs.TypedExprView.{exprs_of, stmt_of, stmts_of}
-use Rattle.type_check.specs.Unrun.{earlier, is_scalar, unrun_among, unrun_in, unrun_in_statements}
+use Rattle.type_check.specs.TypedExprView.{arms_of, exprs_of, stmt_of, stmts_of}
+use Rattle.type_check.specs.Unrun.{earlier, is_scalar, unrun_among, unrun_in, unrun_in_arms, unrun_in_statements}
+use Rattle.type_check.proofs.ArmParts.{arm_smaller}
 use Rattle.type_check.proofs.TypedParts.{begin_smaller, last_smaller, leaving_smaller, stmt_smaller}
 
 -- the tuple of no parts
@@ -51,4 +53,7 @@ unrun_stmts_at ss i s q h =
     (stmt_unrun (get_or ss i s).binds (get_or ss i s).value (stmts_of (drop (suc i) ss) done)
     ∙ ap (λ (x : TypedStmt). earlier (unrun_in x.value) (unrun_in_statements (stmts_of (drop (suc i) ss) done))) (sym q))
 
-pub ruleset unrun_parts = (joined, each_smaller, begin_smaller, last_smaller, leaving_smaller, stmt_smaller, unrun_at_last, unrun_at_leaving, unrun_exprs_at, unrun_stmts_at)
+pub unrun_arms_at : (xs : List TypedArm) (i : ℕ) (x : TypedArm) → x ≡ get_or xs i x → i < length xs → unrun_in_arms (arms_of (drop i xs)) ≡ earlier (unrun_in x.body) (unrun_in_arms (arms_of (drop (i + 1) xs)))
+unrun_arms_at xs i x q h = rw (add-one, drop-cons xs i x h) (ap (λ (y : TypedArm). earlier (unrun_in y.body) (unrun_in_arms (arms_of (drop (suc i) xs)))) (sym q))
+
+pub ruleset unrun_parts = (arm_smaller, unrun_arms_at, joined, each_smaller, begin_smaller, last_smaller, leaving_smaller, stmt_smaller, unrun_at_last, unrun_at_leaving, unrun_exprs_at, unrun_stmts_at)

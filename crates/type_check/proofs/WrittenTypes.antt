@@ -1,6 +1,5 @@
 -- Types as they are written: what they mean is refused as it is, and what is built is of a built type.
-use Rattle.std.proofs.Common.{◌≡◌, Bool, true, false, List, Option, Some, None, Result, Ok, Err, subst}
-use Rattle.std.specs.Prelude.{if◌then◌else◌}
+use Rattle.std.proofs.Common.{◌≡◌, List, Option, Some, None, Result, Ok, subst}
 use Rattle.text_core.specs.declared.fault.PassError.{PassError}
 use Rattle.text_core.specs.declared.fault.PassError.TheVariants as fault
 use Rattle.text_core.specs.declared.refusal.SourceError.{SourceError}
@@ -13,7 +12,7 @@ use Rattle.rs_types.specs.Meant as rs
 use Rattle.rs_types.specs.Meant.{meant}
 use Rattle.source_trees.specs.TypeTree.{TypeTree}
 use Rattle.source_trees.specs.TypeTreeView.{span_of as type_span}
-use Rattle.type_check.specs.Answers.{◌>>=◌, Refuses, unbuilt}
+use Rattle.type_check.specs.Answers.{Refuses, unbuilt}
 use Rattle.type_check.specs.Types.{is_built}
 use Rattle.type_check.specs.WellTyped.{IsBuilt}
 use Rattle.type_check.specs.Written.{function_scope, type_of_meaning, written_type, answer_ty}

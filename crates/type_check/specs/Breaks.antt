@@ -1,6 +1,6 @@
 -- Whether a `break` leaves the loop around an expression (Rust Reference, "break expressions").
 use Rattle.std.specs.Prelude.{Bool, true, false, ◌||◌}
-use Rattle.type_check.specs.TypedExpr.{TypedExpr, TypedStmts, TypedExprs, negative, denied, cast, binary, lazy, assign, update, call, make, part, block, branch, choice, returned, break_off, done, last, leaving, bind, run, none, more}
+use Rattle.type_check.specs.TypedExpr.{TypedExpr, TypedStmts, TypedExprs, TypedArms, negative, denied, cast, binary, lazy, assign, update, call, make, part, block, branch, choice, matched, returned, break_off, done, last, leaving, bind, run, none, more, no_arms, with_arm}
 
 -- a `break` stands in the expression, and in no loop of its own; a condition of a `while` has none
 abbrev mutual
@@ -19,6 +19,7 @@ abbrev mutual
   breaks (block t s ss) = some_statement_breaks ss
   breaks (branch t s c a) = breaks c || breaks a
   breaks (choice t s c a b) = breaks c || (breaks a || breaks b)
+  breaks (matched t s e as') = breaks e || some_arm_breaks as'
   breaks (returned t s e) = breaks e
   breaks _ = false
 
@@ -32,3 +33,7 @@ abbrev mutual
   pub some_breaks : TypedExprs → Bool
   some_breaks none = false
   some_breaks (more e es) = breaks e || some_breaks es
+
+  pub some_arm_breaks : TypedArms → Bool
+  some_arm_breaks no_arms = false
+  some_arm_breaks (with_arm p xs e as') = breaks e || some_arm_breaks as'

@@ -1,5 +1,5 @@
 -- Why program code is refused: E05 at a name that means nothing there, E22 at the name of a variable that is written and is not `mut`, a type
--- that is not the one wanted, or a form that is not built.
+-- that is not the one wanted, a pattern that is refused at the type of its value, or a form that is not built.
 use Rattle.std.specs.Prelude.{◌≡◌, ◌⊎◌, false, List, [], Option, Some, None, Ok, Err, slice_get}
 use Rattle.text_core.specs.declared.name.Name.{Name}
 use Rattle.text_core.specs.declared.refusal.SourceError.{SourceError}
@@ -13,6 +13,7 @@ use Rattle.source_trees.specs.declared.path.PathNode.{PathNode}
 use Rattle.source_trees.specs.declared.path.Segment.{Segment}
 use Rattle.source_trees.specs.declared.statement.StmtKind.{StmtKind}
 use Rattle.source_trees.specs.declared.statement.StmtKind.TheVariants.{Let}
+use Rattle.source_trees.specs.Pat.{Pat}
 use Rattle.source_trees.specs.TypeTree.{TypeTree}
 use Rattle.source_trees.specs.Expr as E
 use Rattle.source_trees.specs.Expr.{Expr}
@@ -21,6 +22,7 @@ use Rattle.type_check.specs.declared.scope.Found.{Found}
 use Rattle.type_check.specs.declared.scope.Variable.{Variable}
 use Rattle.type_check.specs.declared.statements.Step.{Step}
 use Rattle.type_check.specs.Answers.{◌>>=◌, unknown_name, mismatch, unbuilt, not_mutable}
+use Rattle.type_check.specs.Arms.{Binding, pattern_at, in_arm}
 use Rattle.type_check.specs.Makers.{Maker, maker_of}
 use Rattle.type_check.specs.Scope.{found}
 use Rattle.type_check.specs.Setting.{Setting, looping, outside}
@@ -90,6 +92,14 @@ IsNoType σ k e = (w : TypeTree) × (written_in k ≡ Some w) × (written_type �
 abbrev pub IsNoTarget : Setting → TypeTree → SourceError → Type 0
 IsNoTarget σ w e = written_type σ.types w ≡ Err e
 
+-- the pattern is refused at the type of the value
+abbrev pub IsNoPattern : Setting → TypedExpr → Pat → SourceError → Type 0
+IsNoPattern σ a p e = pattern_at σ.types (ty_of a) p ≡ Err e
+
+-- the pattern of an arm is refused, or its body has the cause, in the scope of the names that the pattern binds
+abbrev pub IsInArm : Setting → List Variable → (value : Expr) → Pat → (cause : List Variable → Type 0) → SourceError → Type 0
+IsInArm σ Γ c p cause e = (v : TypedExpr) × (typed σ Γ c None ≡ Ok v) × (IsNoPattern σ v p e ⊎ ((b : Binding) × (pattern_at σ.types (ty_of v) p ≡ Ok b) × cause (in_arm Γ b.1)))
+
 -- the refusal has its cause at the expression or at a part of it, in the scope of that part
 abbrev mutual
   pub Causes : Setting → List Variable → Expr → SourceError → Type 0
@@ -113,6 +123,9 @@ abbrev mutual
   Causes σ Γ (E.block_with s ss a) e = IsMismatch e ⊎ (CausesInStmts σ Γ ss e ⊎ ((o : Opened) × (typed_stmts σ Γ ss ≡ Ok o) × Causes σ o.scope a e))
   Causes σ Γ (E.branch s None c a) e = IsMismatch e ⊎ (Causes σ Γ c e ⊎ Causes σ Γ a e)
   Causes σ Γ (E.choice s None c a b) e = IsMismatch e ⊎ (Causes σ Γ c e ⊎ (Causes σ Γ a e ⊎ Causes σ Γ b e))
+  Causes σ Γ (E.branch s (Some p) c a) e = IsMismatch e ⊎ (Causes σ Γ c e ⊎ IsInArm σ Γ c p (λ Δ. Causes σ Δ a e) e)
+  Causes σ Γ (E.choice s (Some p) c a b) e = IsMismatch e ⊎ (Causes σ Γ c e ⊎ (IsInArm σ Γ c p (λ Δ. Causes σ Δ a e) e ⊎ Causes σ Γ b e))
+  Causes σ Γ (E.matching s c as') e = IsMismatch e ⊎ (Causes σ Γ c e ⊎ CausesInArms σ Γ c as' e)
   Causes σ Γ (E.repeat s None c b) e = IsMismatch e ⊎ (Causes (outside σ) Γ c e ⊎ Causes (looping σ) Γ b e)
   -- or an attribute before the loop is no invariant
   Causes σ Γ (E.attributed s is (E.repeat r None c b)) e = (IsMismatch e ⊎ IsUnbuilt e) ⊎ (Causes (outside σ) Γ c e ⊎ Causes (looping σ) Γ b e)
@@ -142,6 +155,10 @@ abbrev mutual
   pub CausesInFields : Setting → List Variable → Span → Maker → List FieldDecl → E.FieldExprs → SourceError → Type 0
   CausesInFields σ Γ s m left E.no_fields e = no_field_left s left ≡ Err e
   CausesInFields σ Γ s m left (E.with_field r x a fs) e = (next_field σ.types m left x ≡ Err e) ⊎ (Causes σ Γ a e ⊎ CausesInFields σ Γ s m (fields_behind left) fs e)
+
+  pub CausesInArms : Setting → List Variable → (value : Expr) → E.Arms → SourceError → Type 0
+  CausesInArms σ Γ c E.no_arms e = ⊥
+  CausesInArms σ Γ c (E.with_arm r p a as') e = IsInArm σ Γ c p (λ Δ. Causes σ Δ a e) e ⊎ CausesInArms σ Γ c as' e
 
 -- a refusal of program code has a cause
 abbrev pub RefusalsHaveCauses : Type 0

@@ -1,12 +1,13 @@
--- The first formula that is refused: in a function its clauses stand before its body, and an expression's parts before it.
+-- The first formula or match that is refused: in a function its clauses stand before its body, and an expression's parts before it. No match is lowered so
+-- far, so each is refused as not built, where all expressions have types.
 use Rattle.std.specs.Prelude.{List, [], ◌∷◌, Option, Some, None}
 use Rattle.text_core.specs.declared.refusal.SourceError.{SourceError}
 use Rattle.type_check.specs.declared.assertion.Assertion.{Assertion}
 use Rattle.type_check.specs.declared.assertion.Assertion.TheVariants.{Good, Bad}
 use Rattle.type_check.specs.declared.program.TypedClause.{TypedClause}
 use Rattle.type_check.specs.declared.program.TypedFunction.{TypedFunction}
-use Rattle.type_check.specs.Answers.{or_else}
-use Rattle.type_check.specs.TypedExpr.{TypedExpr, TypedStmts, TypedExprs, integer, truth, variable, negative, denied, cast, binary, lazy, assign, update, call, make, part, block, branch, choice, repeat, panics, returned, endless, until_break, break_off, go_on, done, last, leaving, bind, run, none, more}
+use Rattle.type_check.specs.Answers.{or_else, unbuilt}
+use Rattle.type_check.specs.TypedExpr.{TypedExpr, TypedStmts, TypedExprs, integer, truth, variable, negative, denied, cast, binary, lazy, assign, update, call, make, part, block, branch, choice, matched, repeat, panics, returned, endless, until_break, break_off, go_on, done, last, leaving, bind, run, none, more, TypedArms, no_arms, with_arm}
 
 abbrev pub bad_of : Assertion → Option SourceError
 bad_of (Good s t) = None
@@ -34,6 +35,8 @@ abbrev mutual
   bad_in (block t s ss) = bad_in_stmts ss
   bad_in (branch t s c a) = or_else (bad_in c) (bad_in a)
   bad_in (choice t s c a b) = or_else (bad_in c) (or_else (bad_in a) (bad_in b))
+  -- which is not lowered so far, and so is refused itself
+  bad_in (matched t s e as') = or_else (bad_in e) (or_else (bad_in_arms as') (Some (unbuilt s)))
   bad_in (repeat t s is c b) = or_else (bad_among is) (or_else (bad_in c) (bad_in b))
   bad_in (panics t s k) = None
   bad_in (returned t s e) = bad_in e
@@ -52,6 +55,10 @@ abbrev mutual
   pub bad_in_exprs : TypedExprs → Option SourceError
   bad_in_exprs none = None
   bad_in_exprs (more e es) = or_else (bad_in e) (bad_in_exprs es)
+
+  pub bad_in_arms : TypedArms → Option SourceError
+  bad_in_arms no_arms = None
+  bad_in_arms (with_arm p xs e as') = or_else (bad_in e) (bad_in_arms as')
 
 abbrev pub bad_clause : List TypedClause → Option SourceError
 bad_clause [] = None

@@ -1,4 +1,6 @@
 pub mod Answers
+pub mod Arms
+pub mod Around
 pub mod Breaks
 pub mod Causes
 pub mod Chains

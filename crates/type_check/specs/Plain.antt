@@ -4,7 +4,7 @@ use Rattle.std.specs.Prelude.{List, [], ◌∷◌}
 use Rattle.logic_term.specs.Ty.{Ty, int, bool, tuple, no_tys}
 use Rattle.type_check.specs.declared.program.TypedFunction.{TypedFunction}
 use Rattle.type_check.specs.declared.program.TypedProgram.{TypedProgram}
-use Rattle.type_check.specs.TypedExpr.{TypedExpr, TypedStmts, TypedExprs, integer, truth, variable, negative, denied, cast, binary, lazy, assign, update, call, make, part, block, branch, choice, repeat, panics, returned, endless, until_break, break_off, go_on, done, last, leaving, bind, run, none, more}
+use Rattle.type_check.specs.TypedExpr.{TypedExpr, TypedStmts, TypedExprs, integer, truth, variable, negative, denied, cast, binary, lazy, assign, update, call, make, part, block, branch, choice, matched, repeat, panics, returned, endless, until_break, break_off, go_on, done, last, leaving, bind, run, none, more}
 
 -- the machine integers, the truth values and unit
 abbrev pub IsScalar : Ty → Type 0
@@ -17,7 +17,7 @@ abbrev pub AllScalar : List Ty → Type 0
 AllScalar [] = Unit {0}
 AllScalar (t ∷ ts) = IsScalar t × AllScalar ts
 
--- each part is of such a type, and none is made of others or is a part of another
+-- each part is of such a type, and none is made of others, is a part of another or is matched
 abbrev mutual
   pub IsPlain : TypedExpr → Type 0
   IsPlain (integer t s z k) = IsScalar t
@@ -36,6 +36,7 @@ abbrev mutual
   IsPlain (block t s ss) = IsScalar t × StatementsArePlain ss
   IsPlain (branch t s c a) = IsScalar t × IsPlain c × IsPlain a
   IsPlain (choice t s c a b) = IsScalar t × IsPlain c × IsPlain a × IsPlain b
+  IsPlain (matched t s e as') = ⊥
   IsPlain (repeat t s is c b) = IsScalar t × IsPlain c × IsPlain b
   IsPlain (panics t s k) = IsScalar t
   IsPlain (returned t s e) = IsScalar t × IsPlain e

@@ -11,6 +11,7 @@ use Rattle.source_trees.specs.declared.operator.UnaryOp.TheVariants.{Neg, Not}
 use Rattle.source_trees.specs.Expr as E
 use Rattle.source_trees.specs.Expr.{Expr}
 use Rattle.source_trees.specs.ExprView.{span_of}
+use Rattle.source_trees.specs.Pat.{Pat}
 use Rattle.source_trees.specs.TypeTree.{TypeTree}
 use Rattle.source_trees.specs.TypeTreeView.{span_of as type_span}
 use Rattle.type_check.specs.declared.operands.Operands.{Operands}
@@ -18,12 +19,13 @@ use Rattle.type_check.specs.declared.operands.Order.{Order}
 use Rattle.type_check.specs.declared.operands.Order.TheVariants as order
 use Rattle.type_check.specs.declared.scope.Variable.{Variable}
 use Rattle.type_check.specs.Answers.{unbuilt, gather}
+use Rattle.type_check.specs.Arms.{TypedArm, arm_of, pattern_at, in_arm, and_arm, or_else_arm}
 use Rattle.type_check.specs.Makers.{Maker, maker_of}
 use Rattle.type_check.specs.Setting.{Setting, looping, outside}
-use Rattle.type_check.specs.TypedExpr.{TypedExpr, TypedExprs}
+use Rattle.type_check.specs.TypedExpr.{TypedExpr, TypedExprs, TypedArms}
 use Rattle.type_check.specs.TypedExpr as tree
 use Rattle.type_check.specs.TypedExprView.{ty_of, stmts_of}
-use Rattle.type_check.specs.Typing.{Typed, fit, asked, literal, named, negated, is_bare, order_of, operands_of, operated, widened, assigned, updated, callee_of, first_of, rest_of, params_of, called, parts_of, tupled, parted, selected, next_field, fields_behind, no_field_left, literal_made, Opened, opened, declared, behind, typed_stmt, without_last, closed, given, chosen, panicked, returned, bare_return, endless, in_a_loop, invariant_of, typed}
+use Rattle.type_check.specs.Typing.{Typed, fit, asked, literal, named, negated, is_bare, order_of, operands_of, operated, widened, assigned, updated, callee_of, first_of, rest_of, params_of, called, parts_of, tupled, parted, selected, next_field, fields_behind, no_field_left, literal_made, Opened, opened, declared, behind, typed_stmt, without_last, closed, given, chosen, matched, chosen_by, nothing, panicked, returned, bare_return, endless, in_a_loop, invariant_of, typed}
 use Rattle.type_check.specs.WellTyped.{unit, is_arithmetic}
 use Rattle.type_check.specs.Written.{step_of, written_type}
 
@@ -68,6 +70,15 @@ abbrev pub each_stmt : Setting → List Variable → E.Stmts → (Opened → Ask
 each_stmt σ Γ E.no_stmts k = k (opened Γ [])
 each_stmt σ Γ (E.with_stmt s kind e ss) k = first (step_of σ.types kind) λ p. part σ Γ e p.expected λ a. each_stmt σ (declared Γ p.declares a) ss λ o. k (behind (typed_stmt p a) o)
 
+-- an arm, at a value of type u, in the scope that its pattern gives, where t is asked
+abbrev pub an_arm : Setting → List Variable → (u : Ty) → (t : Option Ty) → Pat → Expr → (TypedArm → Asks) → Asks
+an_arm σ Γ u t p e k = first (pattern_at σ.types u p) λ b. part σ (in_arm Γ b.1) e t λ y. k (arm_of b y)
+
+-- each arm behind those that are made
+abbrev pub each_arm : Setting → List Variable → (u : Ty) → (t : Option Ty) → (made : TypedArms) → E.Arms → (TypedArms × Option Ty → Asks) → Asks
+each_arm σ Γ u t made E.no_arms k = k (made, t)
+each_arm σ Γ u t made (E.with_arm r p e as') k = an_arm σ Γ u t p e λ x. each_arm σ Γ u (given t x.body) (and_arm made x) as' k
+
 -- ---- the rules
 
 abbrev pub rule : Setting → List Variable → Expr → Option Ty → Asks
@@ -90,6 +101,11 @@ rule σ Γ (E.block s ss) t = each_stmt σ Γ ss λ o. comes (closed t s (withou
 rule σ Γ (E.block_with s ss e) t = each_stmt σ Γ ss λ o. part σ o.scope e t λ a. comes (closed t s (stmts_of o.stmts (tree.last a)))
 rule σ Γ (E.branch s None c a) t = part σ Γ c (Some bool) λ x. part σ Γ a (Some unit) λ y. comes (fit t s (tree.branch unit s x y))
 rule σ Γ (E.choice s None c a b) t = part σ Γ c (Some bool) λ x. part σ Γ a t λ y. part σ Γ b (given t y) λ z. comes (chosen t s x y z)
+rule σ Γ (E.branch s (Some p) c e) t =
+    part σ Γ c None λ a. an_arm σ Γ (ty_of a) (Some unit) p e λ x. comes (fit t s (tree.matched unit s a (or_else_arm (ty_of a) x (nothing s))))
+rule σ Γ (E.choice s (Some p) c d e) t =
+    part σ Γ c None λ a. an_arm σ Γ (ty_of a) t p d λ x. part σ Γ e (given t x.body) λ z. comes (chosen_by t s a x z)
+rule σ Γ (E.matching s e as') t = part σ Γ e None λ a. each_arm σ Γ (ty_of a) t tree.no_arms as' λ p. comes (matched t s a p)
 rule σ Γ (E.repeat s None c b) t = part (outside σ) Γ c (Some bool) λ x. part (looping σ) Γ b (Some unit) λ y. comes (fit t s (tree.repeat unit s [] x y))
 -- a loop with its invariants, from the first attribute on
 rule σ Γ (E.attributed s is (E.repeat r None c b)) t = first (gather (invariant_of Γ) is) λ is'. part (outside σ) Γ c (Some bool) λ x. part (looping σ) Γ b (Some unit) λ y. comes (fit t s (tree.repeat unit s is' x y))

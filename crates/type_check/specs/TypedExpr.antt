@@ -5,8 +5,10 @@ use Rattle.text_core.specs.declared.span.Span.{Span}
 use Rattle.source_kinds.specs.declared.kinds.BinaryOp.{BinaryOp}
 use Rattle.source_kinds.specs.declared.kinds.IntKind.{IntKind}
 use Rattle.logic_term.specs.declared.kinds.Ctor.{Ctor}
+use Rattle.logic_term.specs.Pattern.{Pat}
 use Rattle.logic_term.specs.Ty.{Ty}
 use Rattle.source_kinds.specs.declared.kinds.LazyOp.{LazyOp}
+use Rattle.pat_types.specs.declared.names.BoundName.{BoundName}
 use Rattle.type_check.specs.declared.assertion.Assertion.{Assertion}
 
 mutual
@@ -34,6 +36,8 @@ mutual
     -- `if` without `else`
     branch : Ty → Span → TypedExpr → TypedExpr → TypedExpr
     choice : Ty → Span → TypedExpr → TypedExpr → TypedExpr → TypedExpr
+    -- a value, and of its arms the first whose pattern matches it
+    matched : Ty → Span → TypedExpr → TypedArms → TypedExpr
     repeat : Ty → Span → List Assertion → TypedExpr → TypedExpr → TypedExpr
     -- what always panics
     panics : Ty → Span → Cause → TypedExpr
@@ -59,3 +63,8 @@ mutual
   pub data TypedExprs : Type 0 where
     none : TypedExprs
     more : TypedExpr → TypedExprs → TypedExprs
+
+  pub data TypedArms : Type 0 where
+    no_arms : TypedArms
+    -- the names that the pattern binds are the next variables, in this order
+    with_arm : Pat → List BoundName → TypedExpr → TypedArms → TypedArms

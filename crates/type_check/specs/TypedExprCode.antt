@@ -6,12 +6,14 @@ use Rattle.text_core.specs.contracts.refusal.Cause as cause
 use Rattle.text_core.specs.contracts.span.Span as span
 use Rattle.source_kinds.specs.contracts.kinds.BinaryOp as binary_op
 use Rattle.source_kinds.specs.contracts.kinds.IntKind as int_kind
+use Rattle.logic_term.specs.PatternCode.{coded_pat}
 use Rattle.logic_term.specs.TyCode.{coded_ty}
 use Rattle.logic_term.specs.contracts.kinds.Ctor as ctor
 use Rattle.source_kinds.specs.contracts.kinds.LazyOp as lazy_op
+use Rattle.pat_types.specs.contracts.names.BoundName as bound_name
 use Rattle.type_check.specs.contracts.assertion.Assertion as assertion
 use base.Stored.{Gv, gnil, gnum, gcons, num}
-use Rattle.type_check.specs.TypedExpr.{TypedExpr, integer, truth, variable, negative, denied, cast, binary, lazy, assign, update, call, make, part, block, branch, choice, repeat, panics, returned, endless, until_break, break_off, go_on, TypedStmts, done, last, leaving, bind, run, TypedExprs, none, more}
+use Rattle.type_check.specs.TypedExpr.{TypedExpr, integer, truth, variable, negative, denied, cast, binary, lazy, assign, update, call, make, part, block, branch, choice, matched, repeat, panics, returned, endless, until_break, break_off, go_on, TypedStmts, done, last, leaving, bind, run, TypedExprs, none, more, TypedArms, no_arms, with_arm}
 
 abbrev pub head : Gv → Gv
 head gnil = gnil
@@ -44,6 +46,7 @@ abbrev mutual
   typed_code (block a0 a1 a2) = gcons (gnum 10) (gcons (coded_ty.code a0) (gcons (span.the_row.coded.code a1) (stmts_code a2)))
   typed_code (branch a0 a1 a2 a3) = gcons (gnum 11) (gcons (coded_ty.code a0) (gcons (span.the_row.coded.code a1) (gcons (typed_code a2) (typed_code a3))))
   typed_code (choice a0 a1 a2 a3 a4) = gcons (gnum 12) (gcons (coded_ty.code a0) (gcons (span.the_row.coded.code a1) (gcons (typed_code a2) (gcons (typed_code a3) (typed_code a4)))))
+  typed_code (matched a0 a1 a2 a3) = gcons (gnum 22) (gcons (coded_ty.code a0) (gcons (span.the_row.coded.code a1) (gcons (typed_code a2) (arms_code a3))))
   typed_code (repeat a0 a1 a2 a3 a4) = gcons (gnum 13) (gcons (coded_ty.code a0) (gcons (span.the_row.coded.code a1) (gcons ((coded_list assertion.the_row.coded).code a2) (gcons (typed_code a3) (typed_code a4)))))
   typed_code (panics a0 a1 a2) = gcons (gnum 14) (gcons (coded_ty.code a0) (gcons (span.the_row.coded.code a1) (cause.the_row.coded.code a2)))
   typed_code (returned a0 a1 a2) = gcons (gnum 15) (gcons (coded_ty.code a0) (gcons (span.the_row.coded.code a1) (typed_code a2)))
@@ -62,6 +65,10 @@ abbrev mutual
   pub exprs_code : TypedExprs → Gv
   exprs_code none = gcons (gnum 0) gnil
   exprs_code (more a0 a1) = gcons (gnum 1) (gcons (typed_code a0) (exprs_code a1))
+
+  pub arms_code : TypedArms → Gv
+  arms_code no_arms = gcons (gnum 0) gnil
+  arms_code (with_arm a0 a1 a2 a3) = gcons (gnum 1) (gcons (coded_pat.code a0) (gcons ((coded_list bound_name.the_row.coded).code a1) (gcons (typed_code a2) (arms_code a3))))
 
 mutual
   pub typed_injective : (x y : TypedExpr) → typed_code x ≡ typed_code y → x ≡ y
@@ -95,6 +102,8 @@ mutual
   typed_injective (choice a0 a1 a2 a3 a4) (choice b0 b1 b2 b3 b4) p =
       λ i. choice (coded_ty.inj a0 b0 (ap (λ g. head (tail g)) p) i) (span.the_row.coded.inj a1 b1 (ap (λ g. head (tail (tail g))) p) i) (typed_injective a2 b2 (ap (λ g. head (tail (tail (tail g)))) p) i)
       (typed_injective a3 b3 (ap (λ g. head (tail (tail (tail (tail g))))) p) i) (typed_injective a4 b4 (ap (λ g. tail (tail (tail (tail (tail g))))) p) i)
+  typed_injective (matched a0 a1 a2 a3) (matched b0 b1 b2 b3) p =
+      λ i. matched (coded_ty.inj a0 b0 (ap (λ g. head (tail g)) p) i) (span.the_row.coded.inj a1 b1 (ap (λ g. head (tail (tail g))) p) i) (typed_injective a2 b2 (ap (λ g. head (tail (tail (tail g)))) p) i) (arms_injective a3 b3 (ap (λ g. tail (tail (tail (tail g)))) p) i)
   typed_injective (repeat a0 a1 a2 a3 a4) (repeat b0 b1 b2 b3 b4) p =
       λ i. repeat (coded_ty.inj a0 b0 (ap (λ g. head (tail g)) p) i) (span.the_row.coded.inj a1 b1 (ap (λ g. head (tail (tail g))) p) i) ((coded_list assertion.the_row.coded).inj a2 b2 (ap (λ g. head (tail (tail (tail g)))) p) i)
       (typed_injective a3 b3 (ap (λ g. head (tail (tail (tail (tail g))))) p) i) (typed_injective a4 b4 (ap (λ g. tail (tail (tail (tail (tail g))))) p) i)
@@ -122,6 +131,13 @@ mutual
   exprs_injective none none p = refl
   exprs_injective (more a0 a1) (more b0 b1) p = λ i. more (typed_injective a0 b0 (ap (λ g. head (tail g)) p) i) (exprs_injective a1 b1 (ap (λ g. tail (tail g)) p) i)
   exprs_injective x y p = absurd (omega (arith, ap tag p))
+
+  pub arms_injective : (x y : TypedArms) → arms_code x ≡ arms_code y → x ≡ y
+  arms_injective no_arms no_arms p = refl
+  arms_injective (with_arm a0 a1 a2 a3) (with_arm b0 b1 b2 b3) p =
+      λ i. with_arm (coded_pat.inj a0 b0 (ap (λ g. head (tail g)) p) i) ((coded_list bound_name.the_row.coded).inj a1 b1 (ap (λ g. head (tail (tail g))) p) i)
+      (typed_injective a2 b2 (ap (λ g. head (tail (tail (tail g)))) p) i) (arms_injective a3 b3 (ap (λ g. tail (tail (tail (tail g)))) p) i)
+  arms_injective x y p = absurd (omega (arith, ap tag p))
 
 abbrev pub coded_typed : Coded TypedExpr
 coded_typed = record { code = typed_code; inj = typed_injective }

@@ -5,7 +5,8 @@ use denote.Param.Weighed.{most}
 use Rattle.text_core.specs.declared.span.Span.{Span}
 use Rattle.logic_term.specs.Ty.{Ty}
 use Rattle.type_check.specs.TypedExpr.{TypedExpr, TypedStmts, done, last, leaving}
-use Rattle.type_check.specs.TypedExprView.{typed_of, typed_size, stmts_size, exprs_size, stmt_of, stmts_of, exprs_of}
+use Rattle.type_check.specs.TypedExprView.{typed_of, typed_size, stmts_size, exprs_size, arms_size, stmt_of, stmts_of, exprs_of, arms_of}
+use Rattle.type_check.specs.declared.typed.TypedArm.{TypedArm}
 use Rattle.type_check.specs.declared.typed.TypedStmt.{TypedStmt}
 use Rattle.type_check.specs.declared.typed.TypedNode.{TypedNode}
 use Rattle.type_check.specs.declared.typed.TypedNode.TheVariants as node
@@ -31,6 +32,10 @@ most_stmts : (ss : List TypedStmt) (end : TypedStmts) → max (most (λ s. max (
 most_stmts [] end = omega arith
 most_stmts (s ∷ ss) end = omega (arith, most_stmts ss end, stmt_size s.binds s.value (stmts_of ss end))
 
+most_arms : (as' : List TypedArm) → most (λ a. max (typed_size a.body + 1) 0) as' ≤ arms_size (arms_of as')
+most_arms [] = omega arith
+most_arms (a ∷ as') = omega (arith, most_arms as')
+
 pub falls : (t : Ty) (s : Span) (n : TypedNode) → max (deep-TypedNode n) 0 ≤ typed_size (typed_of t s n)
 falls t s (node.Int a0 a1) = omega arith
 falls t s (node.Truth a0) = omega arith
@@ -50,6 +55,7 @@ falls t s (node.BlockWith ss e) = omega (arith, most_stmts ss.items (last e))
 falls t s (node.BlockLeaving ss e) = omega (arith, most_stmts ss.items (leaving e))
 falls t s (node.If a0 a1) = omega arith
 falls t s (node.IfElse a0 a1 a2) = omega arith
+falls t s (node.Match a0 a1) = omega (arith, most_arms a1.items)
 falls t s (node.While a0 a1 a2) = omega arith
 falls t s (node.Panic a0) = omega arith
 falls t s (node.Return a0) = omega arith

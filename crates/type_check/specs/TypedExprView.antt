@@ -2,7 +2,8 @@
 use Rattle.std.specs.Prelude.{ℕ, suc, max, Bool, true, false, List, [], ◌∷◌}
 use Rattle.text_core.specs.declared.span.Span.{Span}
 use Rattle.logic_term.specs.Ty.{Ty}
-use Rattle.type_check.specs.TypedExpr.{TypedExpr, integer, truth, variable, negative, denied, cast, binary, lazy, assign, update, call, make, part, block, branch, choice, repeat, panics, returned, endless, until_break, break_off, go_on, TypedStmts, done, last, leaving, bind, run, TypedExprs, none, more}
+use Rattle.type_check.specs.TypedExpr.{TypedExpr, integer, truth, variable, negative, denied, cast, binary, lazy, assign, update, call, make, part, block, branch, choice, matched, repeat, panics, returned, endless, until_break, break_off, go_on, TypedStmts, done, last, leaving, bind, run, TypedExprs, none, more, TypedArms, no_arms, with_arm}
+use Rattle.type_check.specs.declared.typed.TypedArm.{TypedArm}
 use Rattle.type_check.specs.declared.typed.TypedStmt.{TypedStmt}
 use Rattle.type_check.specs.declared.typed.TypedNode.{TypedNode}
 use Rattle.type_check.specs.declared.typed.TypedNode.TheVariants as node
@@ -19,6 +20,10 @@ stmts_of (s ∷ ss) end = stmt_of s.binds s.value (stmts_of ss end)
 abbrev pub exprs_of : List TypedExpr → TypedExprs
 exprs_of [] = none
 exprs_of (e ∷ es) = more e (exprs_of es)
+
+abbrev pub arms_of : List TypedArm → TypedArms
+arms_of [] = no_arms
+arms_of (a ∷ as') = with_arm a.pattern a.names.items a.body (arms_of as')
 
 abbrev pub typed_of : Ty → Span → TypedNode → TypedExpr
 typed_of t s (node.Int a0 a1) = integer t s a0 a1
@@ -39,6 +44,7 @@ typed_of t s (node.BlockWith ss e) = block t s (stmts_of ss.items (last e))
 typed_of t s (node.BlockLeaving ss e) = block t s (stmts_of ss.items (leaving e))
 typed_of t s (node.If a0 a1) = branch t s a0 a1
 typed_of t s (node.IfElse a0 a1 a2) = choice t s a0 a1 a2
+typed_of t s (node.Match a0 a1) = matched t s a0 (arms_of a1.items)
 typed_of t s (node.While a0 a1 a2) = repeat t s a0.items a1 a2
 typed_of t s (node.Panic a0) = panics t s a0
 typed_of t s (node.Return a0) = returned t s a0
@@ -65,6 +71,7 @@ abbrev mutual
   typed_size (block a0 a1 a2) = suc (stmts_size a2)
   typed_size (branch a0 a1 a2 a3) = suc (max (typed_size a2) (typed_size a3))
   typed_size (choice a0 a1 a2 a3 a4) = suc (max (typed_size a2) (max (typed_size a3) (typed_size a4)))
+  typed_size (matched a0 a1 a2 a3) = suc (max (typed_size a2) (arms_size a3))
   typed_size (repeat a0 a1 a2 a3 a4) = suc (max (typed_size a3) (typed_size a4))
   typed_size (panics a0 a1 a2) = 1
   typed_size (returned a0 a1 a2) = suc (typed_size a2)
@@ -84,6 +91,10 @@ abbrev mutual
   exprs_size none = 1
   exprs_size (more a0 a1) = suc (max (typed_size a0) (exprs_size a1))
 
+  pub arms_size : TypedArms → ℕ
+  arms_size no_arms = 1
+  arms_size (with_arm a0 a1 a2 a3) = suc (max (typed_size a2) (arms_size a3))
+
 abbrev pub ty_of : TypedExpr → Ty
 ty_of (integer t s a0 a1) = t
 ty_of (truth t s a0) = t
@@ -101,6 +112,7 @@ ty_of (part t s a0 a1) = t
 ty_of (block t s a0) = t
 ty_of (branch t s a0 a1) = t
 ty_of (choice t s a0 a1 a2) = t
+ty_of (matched t s a0 a1) = t
 ty_of (repeat t s a0 a1 a2) = t
 ty_of (panics t s a0) = t
 ty_of (returned t s a0) = t
@@ -126,6 +138,7 @@ span_of (part t s a0 a1) = s
 span_of (block t s a0) = s
 span_of (branch t s a0 a1) = s
 span_of (choice t s a0 a1 a2) = s
+span_of (matched t s a0 a1) = s
 span_of (repeat t s a0 a1 a2) = s
 span_of (panics t s a0) = s
 span_of (returned t s a0) = s

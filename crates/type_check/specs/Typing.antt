@@ -1,8 +1,8 @@
 -- Which variable each name means and which type each expression has, in the form of bidirectional typing (Pierce and Turner
 -- 2000): without an expected type an expression gives one, with one it fits it (Rust Reference, "Operator expressions", "Type cast expressions",
 -- "Call expressions", "Tuple expressions", "Tuple indexing expressions", "Field access expressions", "Struct expressions", "Block expressions",
--- "if expressions", "Predicate loops", "Infinite loops", "break expressions", "continue expressions", "return expressions", "Diverging expressions"). What has no row is not built.
-use Rattle.std.specs.Prelude.{ℕ, zero, suc, ℤ, pos, ◌==◌, ◌++◌, Bool, true, false, List, [], ◌∷◌, length, map, Option, Some, None, Result, Ok, Err, slice_get, if◌then◌else◌}
+-- "if expressions", "if let expressions", "match expressions", "Predicate loops", "Infinite loops", "break expressions", "continue expressions", "return expressions", "Diverging expressions"). What has no row is not built.
+use Rattle.std.specs.Prelude.{ℕ, suc, ℤ, pos, ◌==◌, ◌++◌, Bool, true, false, List, [], ◌∷◌, length, map, Option, Some, None, Result, Ok, Err, slice_get, if◌then◌else◌}
 use Rattle.text_core.specs.declared.name.Name.{Name}
 use Rattle.text_core.specs.declared.refusal.Cause.{Cause}
 use Rattle.text_core.specs.declared.refusal.Cause.TheVariants as cause
@@ -33,6 +33,7 @@ use Rattle.source_trees.specs.Expr as E
 use Rattle.source_trees.specs.Expr.{Expr}
 use Rattle.source_trees.specs.ExprView.{span_of}
 use Rattle.source_trees.specs.TypeTreeView.{span_of as type_span}
+use Rattle.source_trees.specs.Pat.{Pat as Written}
 use Rattle.type_check.specs.declared.assertion.Assertion.{Assertion}
 use Rattle.type_check.specs.declared.heading.Callee.{Callee}
 use Rattle.type_check.specs.declared.operands.Operands.{Operands}
@@ -44,6 +45,7 @@ use Rattle.type_check.specs.declared.scope.Variable.{Variable}
 use Rattle.type_check.specs.declared.statements.Step.{Step}
 use Rattle.type_check.specs.declared.typed.TypedStmt.{TypedStmt}
 use Rattle.type_check.specs.Answers.{◌>>=◌, unknown_name, double_name, mismatch, unbuilt, not_mutable, wanted, gather}
+use Rattle.type_check.specs.Arms.{TypedArm, arm_from, pattern_at, in_arm, and_arm, or_else_arm}
 use Rattle.type_check.specs.Makers.{Maker, maker_of}
 use Rattle.type_check.specs.Functions.{function_from}
 use Rattle.type_check.specs.Breaks.{breaks}
@@ -51,7 +53,7 @@ use Rattle.type_check.specs.Leaves.{leaves}
 use Rattle.type_check.specs.Scope.{found}
 use Rattle.type_check.specs.Setting.{Setting, looping, outside}
 use Rattle.type_check.specs.Terms.{assertion}
-use Rattle.type_check.specs.TypedExpr.{TypedExpr, TypedStmts, TypedExprs}
+use Rattle.type_check.specs.TypedExpr.{TypedExpr, TypedStmts, TypedExprs, TypedArms}
 use Rattle.type_check.specs.TypedExpr as tree
 use Rattle.type_check.specs.TypedExprView.{ty_of, stmt_of, stmts_of}
 use Rattle.constructors.specs.FieldNames.{numbered}
@@ -404,6 +406,10 @@ without_last [] = tree.done
 without_last (s ∷ []) = end_of s
 without_last (s ∷ ss) = stmt_of s.binds s.value (without_last ss)
 
+-- a block without statements
+abbrev pub nothing : Span → TypedExpr
+nothing s = tree.block unit s tree.done
+
 -- a block of these statements
 unfoldable pub closed : Option Ty → Span → TypedStmts → Typed
 closed t s ss = fit t s (tree.block (block_ty t ss) s ss)
@@ -421,6 +427,16 @@ choice_ty y z = if leaves y then ty_of z else ty_of y
 abbrev pub chosen : Option Ty → Span → (condition first second : TypedExpr) → Typed
 chosen t s x y z = fit t s (tree.choice (choice_ty y z) s x y z)
 
+-- ---- `match`
+
+-- of these arms, and what is asked of one behind them: the type of the first that has a value
+abbrev pub matched : Option Ty → Span → (value : TypedExpr) → TypedArms × Option Ty → Typed
+matched t s a p = fit t s (tree.matched (asked p.1) s a p.0)
+
+-- `if let` with `else`
+abbrev pub chosen_by : Option Ty → Span → (value : TypedExpr) → TypedArm → (second : TypedExpr) → Typed
+chosen_by t s a x z = matched t s a (or_else_arm (ty_of a) x z, given (given t x.body) z)
+
 -- ---- what always panics
 
 abbrev pub cause_of : PanicMacro → Cause
@@ -431,10 +447,6 @@ abbrev pub panicked : Option Ty → Span → PanicMacro → Typed
 panicked t s m = Ok (tree.panics (asked t) s (cause_of m))
 
 -- ---- `return`
-
--- a block without statements
-abbrev pub nothing : Span → TypedExpr
-nothing s = tree.block unit s tree.done
 
 -- `return` with this answer, which fits every type
 abbrev pub returned : Option Ty → Span → TypedExpr → TypedExpr
@@ -527,6 +539,19 @@ abbrev mutual
     y ← typed σ Γ a t
     z ← typed σ Γ b (given t y)
     chosen t s x y z
+  typed σ Γ (E.branch s (Some p) c e) t = do
+    a ← typed σ Γ c None
+    x ← arm_from (pattern_at σ.types (ty_of a) p) (λ b. typed σ (in_arm Γ b.1) e (Some unit))
+    fit t s (tree.matched unit s a (or_else_arm (ty_of a) x (nothing s)))
+  typed σ Γ (E.choice s (Some p) c d e) t = do
+    a ← typed σ Γ c None
+    x ← arm_from (pattern_at σ.types (ty_of a) p) (λ b. typed σ (in_arm Γ b.1) d t)
+    z ← typed σ Γ e (given t x.body)
+    chosen_by t s a x z
+  typed σ Γ (E.matching s e as') t = do
+    a ← typed σ Γ e None
+    p ← typed_arms σ Γ (ty_of a) t tree.no_arms as'
+    matched t s a p
   typed σ Γ (E.repeat s None c b) t = do
     x ← typed (outside σ) Γ c (Some bool)
     y ← typed (looping σ) Γ b (Some unit)
@@ -577,6 +602,17 @@ abbrev mutual
     a ← typed σ Γ e (Some u)
     as' ← typed_fields σ Γ s m (fields_behind left) fs
     Ok (tree.more a as')
+
+  -- the arms at a value of type u behind those that are made, where t is asked of them: the first that has a value gives its type to those behind it
+  pub typed_arms : Setting → List Variable → (u : Ty) → (t : Option Ty) → (made : TypedArms) → E.Arms → Result (TypedArms × Option Ty) SourceError
+  typed_arms σ Γ u t made E.no_arms = Ok (made, t)
+  typed_arms σ Γ u t made (E.with_arm r p e as') = do
+    x ← arm_from (pattern_at σ.types u p) (λ b. typed σ (in_arm Γ b.1) e t)
+    typed_arms σ Γ u (given t x.body) (and_arm made x) as'
+
+-- an arm of this pattern, whose names are in scope in its body
+abbrev pub typed_arm : Setting → List Variable → (u : Ty) → (t : Option Ty) → Written → Expr → Result TypedArm SourceError
+typed_arm σ Γ u t p e = arm_from (pattern_at σ.types u p) (λ b. typed σ (in_arm Γ b.1) e t)
 
 -- a statement, and the scope behind it
 abbrev pub typed_statement : Setting → List Variable → Stmt → Result (List Variable × TypedStmt) SourceError

@@ -5,7 +5,7 @@ use Rattle.text_core.specs.declared.span.Span.{Span}
 use Rattle.logic_term.specs.Ty.{Ty, int, bool, tuple, no_tys}
 use Rattle.type_check.specs.declared.program.TypedFunction.{TypedFunction}
 use Rattle.type_check.specs.declared.program.TypedProgram.{TypedProgram}
-use Rattle.type_check.specs.TypedExpr.{TypedExpr, TypedStmts, TypedExprs, integer, truth, variable, negative, denied, cast, binary, lazy, assign, update, call, make, part, block, branch, choice, repeat, panics, returned, endless, until_break, break_off, go_on, done, last, leaving, bind, run, none, more}
+use Rattle.type_check.specs.TypedExpr.{TypedExpr, TypedStmts, TypedExprs, integer, truth, variable, negative, denied, cast, binary, lazy, assign, update, call, make, part, block, branch, choice, matched, repeat, panics, returned, endless, until_break, break_off, go_on, done, last, leaving, bind, run, none, more, TypedArms, no_arms, with_arm}
 use Rattle.type_check.specs.TypedExprView.{ty_of, span_of}
 
 -- the machine integers, the truth values and unit
@@ -29,10 +29,11 @@ abbrev pub unless : Bool → Span → Option Span
 unless true s = None
 unless false s = Some s
 
--- whether an expression runs where its parts do: it makes no value of others, takes none apart, and its own is of such a type
+-- whether an expression runs where its parts do: it makes no value of others, takes none apart, matches none, and its own is of such a type
 abbrev pub runs : TypedExpr → Bool
 runs (make t s c es) = false
 runs (part t s e n) = false
+runs (matched t s e as') = false
 runs e = is_scalar (ty_of e)
 
 abbrev pub own_place : TypedExpr → Option Span
@@ -56,6 +57,7 @@ abbrev mutual
   unrun_in (block t s ss) = earlier (unrun_in_statements ss) (unless (is_scalar t) s)
   unrun_in (branch t s c a) = earlier (unrun_in c) (earlier (unrun_in a) (unless (is_scalar t) s))
   unrun_in (choice t s c a b) = earlier (unrun_in c) (earlier (unrun_in a) (earlier (unrun_in b) (unless (is_scalar t) s)))
+  unrun_in (matched t s e as') = earlier (unrun_in e) (earlier (unrun_in_arms as') (Some s))
   unrun_in (repeat t s is c b) = earlier (unrun_in c) (earlier (unrun_in b) (unless (is_scalar t) s))
   unrun_in (panics t s k) = unless (is_scalar t) s
   unrun_in (returned t s e) = earlier (unrun_in e) (unless (is_scalar t) s)
@@ -74,6 +76,10 @@ abbrev mutual
   pub unrun_among : TypedExprs → Option Span
   unrun_among none = None
   unrun_among (more e es) = earlier (unrun_in e) (unrun_among es)
+
+  pub unrun_in_arms : TypedArms → Option Span
+  unrun_in_arms no_arms = None
+  unrun_in_arms (with_arm p xs e as') = earlier (unrun_in e) (unrun_in_arms as')
 
 -- a function at its name, where the type of a parameter or of its answer is another
 abbrev pub unrun_function : TypedFunction → Option Span

@@ -1,4 +1,4 @@
--- Typed expressions whose parts fit (Rust Reference, "Operator expressions", "Call expressions", "Tuple expressions", "Tuple indexing expressions", "Field access expressions", "Struct expressions", "Block expressions", "if expressions",
+-- Typed expressions whose parts fit (Rust Reference, "Operator expressions", "Call expressions", "Tuple expressions", "Tuple indexing expressions", "Field access expressions", "Struct expressions", "Block expressions", "if expressions", "match expressions",
 -- "Predicate loops", "Infinite loops", "return expressions"). The variables in scope are a list of their types, the outermost first.
 use Rattle.std.specs.Option.{option_map}
 use Rattle.std.specs.Prelude.{◌≡◌, ◌⊎◌, ℕ, zero, suc, ◌<◌, Bool, true, false, List, [], ◌∷◌, ◌++◌, length, map, Option, Some, None, slice_get, if◌then◌else◌}
@@ -15,9 +15,13 @@ use Rattle.logic_term.specs.declared.declaration.FieldDecl.{FieldDecl}
 use Rattle.logic_term.specs.declared.declaration.VariantDecl.{VariantDecl}
 use Rattle.logic_term.specs.declared.kinds.AdtId.{AdtId}
 use Rattle.logic_term.specs.declared.kinds.Ctor.TheVariants.{Tuple, Variant, Closure}
+use Rattle.logic_term.specs.Pattern.{Pat}
 use Rattle.logic_term.specs.Sort.{instance, instances}
 use Rattle.logic_term.specs.Theory.{declared}
 use Rattle.logic_term.specs.Ty.{Ty, Tys, int, bool, tuple, adt, boxed, no_tys, and_ty, unit_ty}
+use Rattle.pat_check.specs.Typed.{IsPat, fields_in}
+use Rattle.pat_types.specs.declared.names.BoundName.{BoundName}
+use Rattle.pat_types.specs.Laws.{AreDistinct, BindsAmong}
 use Rattle.type_check.specs.declared.program.ClauseKind.{ClauseKind}
 use Rattle.type_check.specs.declared.program.ClauseKind.TheVariants.{Requires, Ensures}
 use Rattle.type_check.specs.declared.assertion.Assertion.{Assertion}
@@ -26,7 +30,7 @@ use Rattle.type_check.specs.declared.program.Signature.{Signature}
 use Rattle.type_check.specs.declared.program.TypedClause.{TypedClause}
 use Rattle.type_check.specs.declared.program.TypedFunction.{TypedFunction}
 use Rattle.type_check.specs.declared.program.TypedProgram.{TypedProgram}
-use Rattle.type_check.specs.TypedExpr.{TypedExpr, TypedStmts, TypedExprs, integer, truth, variable, negative, denied, cast, binary, lazy, assign, update, call, make, part, block, branch, choice, repeat, panics, returned, endless, until_break, break_off, go_on, done, last, leaving, bind, run, none, more}
+use Rattle.type_check.specs.TypedExpr.{TypedExpr, TypedStmts, TypedExprs, integer, truth, variable, negative, denied, cast, binary, lazy, assign, update, call, make, part, block, branch, choice, matched, repeat, panics, returned, endless, until_break, break_off, go_on, done, last, leaving, bind, run, none, more, TypedArms, no_arms, with_arm}
 use Rattle.type_check.specs.Breaks.{breaks}
 use Rattle.type_check.specs.Leaves.{leaves}
 use Rattle.type_check.specs.TypedExprView.{ty_of}
@@ -93,6 +97,17 @@ abbrev pub part_ty : List AdtDecl → Ty → ℕ → Option Ty
 part_ty ds (tuple ts) n = nth_part ts n
 part_ty ds (adt d rs ts) n = option_map (field_at ts) (slice_get (struct_fields (slice_get ds d.0)) n)
 part_ty ds _ n = None
+
+-- ---- patterns
+
+-- the pattern is one of values of the type, and these are the names that it binds, each with the type of its variable
+pub record PatternFits (ds : List AdtDecl) (t : Ty) (p : Pat) (xs : List BoundName) : Type 0 where
+  pub matches : IsPat (fields_in ds) p t
+  pub binds : BindsAmong xs p
+  pub distinct : AreDistinct xs
+
+abbrev pub tys_bound : List BoundName → List Ty
+tys_bound xs = map (λ (x : BoundName). x.ty) xs
 
 -- ---- operators
 
@@ -193,6 +208,7 @@ abbrev mutual
   IsWellTyped σ Γ (branch t s c a) = (t ≡ unit) × IsOf bool c × IsOf unit a × IsWellTyped σ Γ c × IsWellTyped σ Γ a
   -- a side that leaves fits any type
   IsWellTyped σ Γ (choice t s c a b) = IsOf bool c × IsOfOrLeaves t a × IsOfOrLeaves t b × IsWellTyped σ Γ c × IsWellTyped σ Γ a × IsWellTyped σ Γ b
+  IsWellTyped σ Γ (matched t s e as') = IsWellTyped σ Γ e × ArmsFit σ Γ (ty_of e) t as'
   IsWellTyped σ Γ (repeat t s is c b) = (t ≡ unit) × EachSpeaks (length Γ) is × IsOf bool c × IsOf unit b × IsWellTyped (outside σ) Γ c × IsWellTyped (looping σ) Γ b
   -- what leaves is of any built type
   IsWellTyped σ Γ (panics t s k) = IsBuilt t
@@ -219,6 +235,11 @@ abbrev mutual
   pub PartsFit : Surroundings → List Ty → TypedExprs → Type 0
   PartsFit σ Γ none = Unit {0}
   PartsFit σ Γ (more e es) = IsWellTyped σ Γ e × PartsFit σ Γ es
+
+  -- the arms of a match of type t at a value of type u: each is of the type, or leaves
+  pub ArmsFit : Surroundings → List Ty → (u t : Ty) → TypedArms → Type 0
+  ArmsFit σ Γ u t no_arms = IsBuilt t
+  ArmsFit σ Γ u t (with_arm p xs e as') = PatternFits σ.types u p xs × IsOfOrLeaves t e × IsWellTyped σ (Γ ++ tys_bound xs) e × ArmsFit σ Γ u t as'
 
 -- ---- functions
 

@@ -1,6 +1,5 @@
 -- Names and types as they are written (Rust Reference, "Paths", "Types"), and what `let` and parameters declare ("Statements", "Functions").
-use Rattle.std.specs.Prelude.{true, false, List, [], Option, Some, None, Result, Ok, Err, if◌then◌else◌}
-use Rattle.text_core.specs.declared.name.Name.{Name}
+use Rattle.std.specs.Prelude.{true, false, List, Option, Some, None, Result, Ok, Err, if◌then◌else◌}
 use Rattle.text_core.specs.declared.refusal.SourceError.{SourceError}
 use Rattle.text_core.specs.declared.span.Span.{Span}
 use Rattle.logic_term.specs.declared.declaration.AdtDecl.{AdtDecl}
@@ -12,8 +11,6 @@ pub use Rattle.constructors.specs.FunctionScope.{function_scope}
 use Rattle.source_trees.specs.declared.param.Param.{Param}
 use Rattle.source_trees.specs.declared.param.ParamNode.{ParamNode}
 use Rattle.source_trees.specs.declared.param.ParamNode.TheVariants as param
-use Rattle.source_trees.specs.declared.path.PathNode.{PathNode}
-use Rattle.source_trees.specs.declared.path.PathNode.TheVariants.{Names}
 use Rattle.source_trees.specs.declared.path.Segment.{Segment}
 use Rattle.source_trees.specs.declared.statement.StmtKind.{StmtKind}
 use Rattle.source_trees.specs.declared.statement.StmtKind.TheVariants as kind

@@ -1,10 +1,10 @@
 ghost use Rattle.std.specs.Prelude.{◌≡◌};
-ghost use Rattle.type_check.specs.Breaks.{breaks, some_breaks, some_statement_breaks};
+ghost use Rattle.type_check.specs.Breaks.{breaks, some_arm_breaks, some_breaks, some_statement_breaks};
 ghost use Rattle.type_check.specs.TypedExpr.{done};
-ghost use Rattle.type_check.specs.TypedExprView.{exprs_of, stmts_of};
+ghost use Rattle.type_check.specs.TypedExprView.{arms_of, exprs_of, stmts_of};
 
 use crate::logic::{cast_operand, operands_of};
-use crate::typed::{TypedExpr, TypedNode, TypedStmt};
+use crate::typed::{TypedArm, TypedExpr, TypedNode, TypedStmt};
 
 /// Whether a `break` in the expression leaves the loop around it. Left operands are gone down by a loop.
 #[cycle(breaks)]
@@ -45,6 +45,7 @@ fn form_breaks(e: &TypedExpr) -> bool
         TypedNode::BlockLeaving(stmts, last) => some_statement_breaks(stmts) || breaks(last),
         TypedNode::If(c, a) => breaks(c) || breaks(a),
         TypedNode::IfElse(c, a, b) => breaks(c) || breaks(a) || breaks(b),
+        TypedNode::Match(value, arms) => breaks(value) || some_arm_breaks(arms),
         TypedNode::Return(a) => breaks(a),
         _ => false,
     }
@@ -70,6 +71,19 @@ fn some_statement_breaks(stmts: &[TypedStmt]) -> bool
 {
     for i in 0..stmts.len() {
         if breaks(&stmts[i].value) {
+            return true;
+        }
+    }
+    false
+}
+
+#[cycle(breaks)]
+#[tactic(auto, using(crate::proofs::BreakParts::break_parts))]
+fn some_arm_breaks(arms: &[TypedArm]) -> bool
+    ensures { result ≡ some_arm_breaks (arms_of arms.now) }
+{
+    for i in 0..arms.len() {
+        if breaks(&arms[i].body) {
             return true;
         }
     }

@@ -15,6 +15,7 @@ use crate::chain::{Above, Descent, Frame, Operation, descend, finish, right_of, 
 use crate::elaborate::invariants_of;
 use crate::literals::{literal_made, next_field, no_field_left};
 use crate::making::{Maker, maker_of};
+use crate::matching::{type_branch_by, type_choice_by, type_match};
 use crate::naming::named;
 use crate::operands::{Operands, Order};
 use crate::refusal::unbuilt;
@@ -186,6 +187,15 @@ fn type_form(
         ExprNode::IfElse(None, condition, yes, no) => type_choice(
             alloc, setting, scope, expected, whole, condition, yes, no,
         ),
+        ExprNode::If(Some(pattern), value, body) => type_branch_by(
+            alloc, setting, scope, expected, whole, pattern, value, body,
+        ),
+        ExprNode::IfElse(Some(pattern), value, yes, no) => type_choice_by(
+            alloc, setting, scope, expected, whole, pattern, value, yes, no,
+        ),
+        ExprNode::Match(value, arms) => type_match(
+            alloc, setting, scope, expected, whole, value, arms,
+        ),
         ExprNode::While(None, condition, body) => type_while(
             alloc,
             setting,
@@ -218,9 +228,6 @@ fn type_form(
             TypedNode::Continue,
         ),
         ExprNode::Receiver
-        | ExprNode::If(Some(_), _, _)
-        | ExprNode::IfElse(Some(_), _, _, _)
-        | ExprNode::Match(_, _)
         | ExprNode::While(Some(_), _, _)
         | ExprNode::Closure(_, _, _, _, _)
         | ExprNode::Ghost(_, _)

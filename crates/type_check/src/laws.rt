@@ -2,13 +2,19 @@
 //! contract of `check` speaks.
 
 ghost use Rattle.type_check.specs.Causes.{RefusalsHaveCauses};
-ghost use Rattle.type_check.specs.Laws.{CheckedProgramsFit, CheckedProgramsAreGood, PlainProgramsRun, ProgramsThatRunArePlain};
+ghost use Rattle.type_check.specs.Laws.{CheckedProgramsFit, CheckedProgramsAreGood, ExpressionsFit, PlainProgramsRun, ProgramsThatRunArePlain};
 ghost use Rattle.type_check.specs.Rules.{TypedByRules, TypingIsOne};
 
-/// The program that a source comes to fits, and no clause and no invariant of it is refused.
+/// The program that a source comes to fits, and no clause, no invariant and no match of it is refused.
 pub fn checked_programs_fit()
     ensures fits { CheckedProgramsFit }
     ensures good { CheckedProgramsAreGood }
+{}
+
+/// What an expression of any form comes to fits, where the types around it are built, and the one that is expected if there is one: each part has the type
+/// that its place asks for.
+pub fn typed_expressions_fit()
+    ensures { ExpressionsFit }
 {}
 
 /// Where nothing of a program is found that does not run yet, it is over integers, truth values and unit alone, and only there.

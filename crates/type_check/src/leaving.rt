@@ -1,7 +1,8 @@
 ghost use Rattle.std.specs.Prelude.{◌≡◌};
-ghost use Rattle.type_check.specs.Leaves.{leaves};
+ghost use Rattle.type_check.specs.Leaves.{all_arms_leave, leaves};
+ghost use Rattle.type_check.specs.TypedExprView.{arms_of};
 
-use crate::typed::{TypedExpr, TypedNode};
+use crate::typed::{TypedArm, TypedExpr, TypedNode};
 
 /// Whether the expression never has a value, since the run leaves it.
 #[cycle(leaves)]
@@ -25,7 +26,21 @@ pub fn leaves(e: &TypedExpr) -> bool
                 }
                 end = no;
             }
+            TypedNode::Match(_, arms) => return all_arms_leave(arms),
             _ => return false,
         }
     }
+}
+
+#[cycle(leaves)]
+#[tactic(auto, using(crate::proofs::ArmParts::leaving_arms))]
+fn all_arms_leave(arms: &[TypedArm]) -> bool
+    ensures { result ≡ all_arms_leave (arms_of arms.now) }
+{
+    for i in 0..arms.len() {
+        if !leaves(&arms[i].body) {
+            return false;
+        }
+    }
+    true
 }

@@ -1,6 +1,7 @@
 //! Names and types: which variable each name means, and which type each expression has.
 #![tactic(auto)]
 
+mod arms;
 mod assertion;
 mod breaking;
 mod calling;
@@ -17,6 +18,7 @@ mod lists;
 mod literals;
 mod logic;
 mod making;
+mod matching;
 mod naming;
 mod operands;
 mod program;
@@ -37,9 +39,9 @@ pub use checking::check;
 pub use elaborate::{answer_name, variable_name};
 pub use laws::{
     checked_programs_fit, expressions_are_typed_by_rules, programs_that_run_are_plain,
-    refusals_have_causes,
+    refusals_have_causes, typed_expressions_fit,
 };
 pub use leaving::leaves;
 pub use program::{ClauseKind, Signature, TypedClause, TypedFunction, TypedProgram};
 pub use running::first_unrun;
-pub use typed::{TypedExpr, TypedNode, TypedStmt};
+pub use typed::{TypedArm, TypedExpr, TypedNode, TypedStmt};

@@ -1,14 +1,14 @@
 ghost use Rattle.std.specs.Prelude.{◌≡◌, ◌≤◌, ◌<◌, ◌||◌, MatchOption};
 ghost use Rattle.type_check.specs.Breaks.{breaks};
-ghost use Rattle.type_check.specs.FirstBad.{bad_of, bad_among, bad_in, bad_in_stmts, bad_in_exprs, bad_clause, bad_in_function, first_bad};
-ghost use Rattle.type_check.specs.Answers.{or_else};
+ghost use Rattle.type_check.specs.FirstBad.{bad_of, bad_among, bad_in, bad_in_stmts, bad_in_exprs, bad_in_arms, bad_clause, bad_in_function, first_bad};
+ghost use Rattle.type_check.specs.Answers.{or_else, unbuilt};
 ghost use Rattle.type_check.specs.TypedExpr.{done};
-ghost use Rattle.type_check.specs.TypedExprView.{exprs_of, stmts_of, typed_size};
+ghost use Rattle.type_check.specs.TypedExprView.{arms_of, exprs_of, stmts_of, typed_size};
 
 use crate::assertion::Assertion;
 use crate::program::{TypedClause, TypedFunction};
-use crate::typed::{TypedExpr, TypedNode, TypedStmt};
-use text_core::SourceError;
+use crate::typed::{TypedArm, TypedExpr, TypedNode, TypedStmt};
+use text_core::{Code, SourceError, Span};
 
 fn earlier(first: Option<SourceError>, second: Option<SourceError>) -> Option<SourceError>
     ensures { result ≡ or_else first second }
@@ -35,6 +35,17 @@ fn bad_among(assertions: &[Assertion]) -> Option<SourceError>
         }
     }
     None
+}
+
+/// A match is not lowered so far.
+fn not_built(span: Span) -> SourceError
+    ensures { result ≡ unbuilt span }
+{
+    SourceError {
+        code: Code::E20,
+        span,
+        other: None,
+    }
 }
 
 /// The operands of an operation.
@@ -106,6 +117,10 @@ fn bad_in_form(e: &TypedExpr) -> Option<SourceError>
         TypedNode::BlockLeaving(stmts, last) => earlier(bad_in_stmts(stmts), bad_in(last)),
         TypedNode::If(c, a) => earlier(bad_in(c), bad_in(a)),
         TypedNode::IfElse(c, a, b) => earlier(bad_in(c), earlier(bad_in(a), bad_in(b))),
+        TypedNode::Match(value, arms) => earlier(
+            bad_in(value),
+            earlier(bad_in_arms(arms), Some(not_built(e.span))),
+        ),
         TypedNode::While(invariants, c, b) => {
             earlier(bad_among(invariants), earlier(bad_in(c), bad_in(b)))
         }
@@ -146,6 +161,20 @@ fn bad_in_stmts(stmts: &[TypedStmt]) -> Option<SourceError>
     None
 }
 
+#[cycle(bad_in)]
+#[tactic(auto, using(crate::proofs::TypedParts::typed_parts))]
+fn bad_in_arms(arms: &[TypedArm]) -> Option<SourceError>
+    ensures { result ≡ bad_in_arms (arms_of arms.now) }
+{
+    for i in 0..arms.len() {
+        let bad = bad_in(&arms[i].body);
+        if bad.is_some() {
+            return bad;
+        }
+    }
+    None
+}
+
 fn bad_clause(clauses: &[TypedClause]) -> Option<SourceError>
     ensures { result ≡ bad_clause clauses.now }
 {
@@ -167,7 +196,7 @@ fn bad_in_function(function: &TypedFunction) -> Option<SourceError>
     )
 }
 
-/// The first refusal of a clause or an invariant, in source order.
+/// The first refusal of a clause, an invariant or a match, in source order.
 pub(crate) fn first_bad(functions: &[TypedFunction]) -> Option<SourceError>
     ensures { result ≡ first_bad functions.now }
 {

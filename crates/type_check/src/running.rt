@@ -1,11 +1,11 @@
 //! Which programs run so far: those that are plain.
 ghost use Rattle.std.specs.Prelude.{◌≡◌, ◌<◌, MatchOption};
 ghost use Rattle.type_check.specs.TypedExpr.{done};
-ghost use Rattle.type_check.specs.TypedExprView.{exprs_of, stmts_of, typed_size};
-ghost use Rattle.type_check.specs.Unrun.{are_scalar, earlier, first_unrun, is_scalar, own_place, runs, unrun_among, unrun_function, unrun_in, unrun_in_statements};
+ghost use Rattle.type_check.specs.TypedExprView.{arms_of, exprs_of, stmts_of, typed_size};
+ghost use Rattle.type_check.specs.Unrun.{are_scalar, earlier, first_unrun, is_scalar, own_place, runs, unrun_among, unrun_function, unrun_in, unrun_in_arms, unrun_in_statements};
 
 use crate::program::{TypedFunction, TypedProgram};
-use crate::typed::{TypedExpr, TypedNode, TypedStmt};
+use crate::typed::{TypedArm, TypedExpr, TypedNode, TypedStmt};
 use crate::typing::ty_of;
 use logic_term::{Ty, TyNode};
 use text_core::Span;
@@ -43,7 +43,7 @@ fn runs(e: &TypedExpr) -> bool
     ensures { result ≡ runs e.now }
 {
     match &*e.node {
-        TypedNode::Make(_, _) | TypedNode::Part(_, _) => false,
+        TypedNode::Make(_, _) | TypedNode::Part(_, _) | TypedNode::Match(_, _) => false,
         _ => is_scalar(ty_of(e)),
     }
 }
@@ -117,6 +117,7 @@ fn unrun_in_parts(e: &TypedExpr) -> Option<Span>
         }
         TypedNode::If(c, a) => earlier(unrun_in(c), unrun_in(a)),
         TypedNode::IfElse(c, a, b) => earlier(unrun_in(c), earlier(unrun_in(a), unrun_in(b))),
+        TypedNode::Match(value, arms) => earlier(unrun_in(value), unrun_in_arms(arms)),
         TypedNode::While(_, c, b) => earlier(unrun_in(c), unrun_in(b)),
         TypedNode::Panic(_) => None,
         TypedNode::Return(a) => unrun_in(a),
@@ -155,6 +156,20 @@ fn unrun_in_statements(stmts: &[TypedStmt]) -> Option<Span>
     None
 }
 
+#[cycle(unrun)]
+#[tactic(auto, using(crate::proofs::UnrunParts::unrun_parts))]
+fn unrun_in_arms(arms: &[TypedArm]) -> Option<Span>
+    ensures { result ≡ unrun_in_arms (arms_of arms.now) }
+{
+    for i in 0..arms.len() {
+        let place = unrun_in(&arms[i].body);
+        if place.is_some() {
+            return place;
+        }
+    }
+    None
+}
+
 fn unrun_function(f: &TypedFunction) -> Option<Span>
     ensures { result ≡ unrun_function f.now }
 {
@@ -166,7 +181,7 @@ fn unrun_function(f: &TypedFunction) -> Option<Span>
 }
 
 /// The first place in the program of what does not run yet, since it is not over integers, truth values and unit alone: of a function that has a
-/// parameter or an answer of another type its name; of an expression that has another type, makes a value of others or takes a part of one, its own place, behind those of its parts. `None` where the program is plain.
+/// parameter or an answer of another type its name; of an expression that has another type, makes a value of others, takes a part of one or matches one, its own place, behind those of its parts. `None` where the program is plain.
 pub fn first_unrun(program: &TypedProgram) -> Option<Span>
     ensures { result ≡ first_unrun program.now }
 {

@@ -2,7 +2,8 @@ ghost use Rattle.std.specs.Prelude.{◌<◌, IfSome};
 ghost use Rattle.type_check.specs.TypedExprView.{typed_size};
 
 use crate::assertion::Assertion;
-use logic_term::{Ctor, Ty};
+use logic_term::{Ctor, Ty, TypedPat};
+use pat_types::BoundName;
 use source_kinds::{BinaryOp, IntKind, LazyOp};
 use std::marker::Model;
 use text_core::{Cause, Span};
@@ -48,6 +49,8 @@ pub enum TypedNode {
     BlockLeaving(Vec<TypedStmt>, TypedExpr),
     If(TypedExpr, TypedExpr),
     IfElse(TypedExpr, TypedExpr, TypedExpr),
+    /// The value, and the arms, of which the first whose pattern matches counts.
+    Match(TypedExpr, Vec<TypedArm>),
     /// The invariants, the condition and the body.
     While(Vec<Assertion>, TypedExpr, TypedExpr),
     /// What always panics.
@@ -70,6 +73,15 @@ pub enum TypedNode {
 pub struct TypedStmt {
     pub binds: bool,
     pub value: TypedExpr,
+}
+
+/// An arm of a match: the names that its pattern binds are the next variables, in this order, in scope in its body.
+#[cycle(typed)]
+#[derive(Drop)]
+pub struct TypedArm {
+    pub pattern: TypedPat,
+    pub names: Vec<BoundName>,
+    pub body: TypedExpr,
 }
 
 impl Model for TypedExpr {
@@ -129,6 +141,7 @@ impl TypedExpr {
             TypedNode::Block(_stmts) => None,
             TypedNode::BlockWith(_stmts, _last) => None,
             TypedNode::BlockLeaving(_stmts, _last) => None,
+            TypedNode::Match(_value, _arms) => None,
             _other => None,
         }
     }

@@ -366,10 +366,18 @@ pub(crate) fn given_by(
 ) -> Result<Option<Ty>, NoMemory>
     ensures { IfOk result (λ t. t ≡ given expected.now first.now) }
 {
-    if !leaves(first) {
-        return given_ty(alloc, first);
+    if leaves(first) {
+        copy_asked(alloc, expected)
+    } else {
+        given_ty(alloc, first)
     }
-    match expected {
+}
+
+/// A copy of the type that is asked for, if one is.
+pub(crate) fn copy_asked(alloc: Global, asked: &Option<Ty>) -> Result<Option<Ty>, NoMemory>
+    ensures { IfOk result (λ t. t ≡ asked.now) }
+{
+    match asked {
         None => Ok(None),
         Some(ty) => Ok(Some(ty.copy(alloc)?)),
     }

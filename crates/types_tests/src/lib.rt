@@ -1,4 +1,4 @@
-//! Tests of the table of declared types, of which types are `Copy`, of assignments, of what leaves, of `break` and `continue`, of tuples, of structs in functions, of casts, and of what does not run yet.
+//! Tests of the table of declared types, of which types are `Copy`, of assignments, of what leaves, of `break` and `continue`, of tuples, of structs in functions, of casts, of `match` and `if let`, and of what does not run yet.
 #![tactic(auto)]
 
 #[cfg(test)]
@@ -19,6 +19,8 @@ mod declaring;
 mod leaving;
 #[cfg(test)]
 mod making;
+#[cfg(test)]
+mod matching;
 #[cfg(test)]
 mod meaning;
 #[cfg(test)]

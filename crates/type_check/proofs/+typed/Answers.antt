@@ -1,6 +1,6 @@
 use Rattle.std.proofs.Common.{rules, ◌≡◌, ◌*◌, ◌+◌, arith}
 use Rattle.type_check.specs.TypedExprView.{typed_size}
-use Rattle.type_check.proofs.Dropped.{args_fall, parts_fall, stmts_fall, stmts_leaving_fall, stmts_with_fall}
+use Rattle.type_check.proofs.Dropped.{args_fall, arms_fall, parts_fall, stmts_fall, stmts_leaving_fall, stmts_with_fall}
 use Rattle.type_check.proofs.+typed.Goals as goal
 
 pub typed::TypedExpr::into_left-drop-args-requires : goal.typed::TypedExpr::into_left-drop-args-requires
@@ -30,5 +30,11 @@ typed::TypedExpr::into_left-drop-stmts-requires-in-BlockWith t c κs =
 pub typed::TypedExpr::into_left-drop-stmts-requires-in-BlockLeaving : goal.typed::TypedExpr::into_left-drop-stmts-requires-in-BlockLeaving
 typed::TypedExpr::into_left-drop-stmts-requires-in-BlockLeaving t c κs =
     let fact = stmts_leaving_fall c.args.self c.self.inside.ty c.self.inside.span c.self.inside.node.value c.into_inner.result c.in-BlockLeaving._stmts c.in-BlockLeaving._last c.self.view_is c.into_inner.ensures c.in-BlockLeaving.is in
+    let measure : 2 * (3 * (typed_size c.args.self + 1) + 0) + 0 ≡ t = c.decreases in
+    (((omega (arith, fact, measure), tt), tt), search rules)
+
+pub typed::TypedExpr::into_left-drop-arms-requires : goal.typed::TypedExpr::into_left-drop-arms-requires
+typed::TypedExpr::into_left-drop-arms-requires t c κs =
+    let fact = arms_fall c.args.self c.self.inside.ty c.self.inside.span c.self.inside.node.value c.into_inner.result c.in-Match._value c.in-Match._arms c.self.view_is c.into_inner.ensures c.in-Match.is in
     let measure : 2 * (3 * (typed_size c.args.self + 1) + 0) + 0 ≡ t = c.decreases in
     (((omega (arith, fact, measure), tt), tt), search rules)

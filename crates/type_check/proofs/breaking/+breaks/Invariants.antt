@@ -1,7 +1,7 @@
 use Rattle.std.proofs.Common.{◌≡◌, ◌≤◌, ◌+◌, ◌*◌, drop}
-use Rattle.type_check.specs.Breaks.{breaks, some_breaks, some_statement_breaks}
+use Rattle.type_check.specs.Breaks.{some_arm_breaks, breaks, some_breaks, some_statement_breaks}
 use Rattle.type_check.specs.TypedExpr.{done}
-use Rattle.type_check.specs.TypedExprView.{typed_size, exprs_size, stmts_size, exprs_of, stmts_of}
+use Rattle.type_check.specs.TypedExprView.{typed_size, exprs_size, stmts_size, arms_size, exprs_of, stmts_of, arms_of}
 use Rattle.type_check.proofs.breaking.+breaks.Given as goal
 
 abbrev pub decreases-breaks : goal.decreases-breaks
@@ -30,3 +30,9 @@ invariant-some_breaks-loop-i l = some_breaks (exprs_of (drop l.i l.es)) ≡ some
 
 abbrev pub invariant-some_statement_breaks-loop-i : goal.invariant-some_statement_breaks-loop-i
 invariant-some_statement_breaks-loop-i l = some_statement_breaks (stmts_of (drop l.i l.stmts) done) ≡ some_statement_breaks (stmts_of l.stmts done)
+
+abbrev pub decreases-some_arm_breaks : goal.decreases-some_arm_breaks
+decreases-some_arm_breaks l = 2 * arms_size (arms_of l.arms.now)
+
+abbrev pub invariant-some_arm_breaks-loop-i : goal.invariant-some_arm_breaks-loop-i
+invariant-some_arm_breaks-loop-i l = some_arm_breaks (arms_of (drop l.i l.arms)) ≡ some_arm_breaks (arms_of l.arms)

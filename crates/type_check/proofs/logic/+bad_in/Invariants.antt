@@ -1,8 +1,8 @@
 use Rattle.std.proofs.Common.{◌≡◌, ◌≤◌, ◌+◌, ◌*◌, drop}
-use Rattle.type_check.specs.FirstBad.{bad_in, bad_in_exprs, bad_in_stmts}
+use Rattle.type_check.specs.FirstBad.{bad_in_arms, bad_in, bad_in_exprs, bad_in_stmts}
 use Rattle.type_check.specs.Answers.{or_else}
 use Rattle.type_check.specs.TypedExpr.{done}
-use Rattle.type_check.specs.TypedExprView.{typed_size, exprs_size, stmts_size, exprs_of, stmts_of}
+use Rattle.type_check.specs.TypedExprView.{typed_size, exprs_size, stmts_size, arms_size, exprs_of, stmts_of, arms_of}
 use Rattle.type_check.proofs.logic.+bad_in.Given as goal
 
 abbrev pub decreases-bad_in : goal.decreases-bad_in
@@ -31,3 +31,9 @@ invariant-bad_in_exprs-loop-i l = bad_in_exprs (exprs_of (drop l.i l.es)) ≡ ba
 
 abbrev pub invariant-bad_in_stmts-loop-i : goal.invariant-bad_in_stmts-loop-i
 invariant-bad_in_stmts-loop-i l = bad_in_stmts (stmts_of (drop l.i l.stmts) done) ≡ bad_in_stmts (stmts_of l.stmts done)
+
+abbrev pub decreases-bad_in_arms : goal.decreases-bad_in_arms
+decreases-bad_in_arms l = 2 * arms_size (arms_of l.arms.now)
+
+abbrev pub invariant-bad_in_arms-loop-i : goal.invariant-bad_in_arms-loop-i
+invariant-bad_in_arms-loop-i l = bad_in_arms (arms_of (drop l.i l.arms)) ≡ bad_in_arms (arms_of l.arms)

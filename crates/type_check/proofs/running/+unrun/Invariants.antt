@@ -1,7 +1,7 @@
 use Rattle.std.proofs.Common.{◌≡◌, ◌≤◌, ◌+◌, ◌*◌, drop}
-use Rattle.type_check.specs.Unrun.{unrun_in, unrun_among, unrun_in_statements, earlier}
+use Rattle.type_check.specs.Unrun.{unrun_in_arms, unrun_in, unrun_among, unrun_in_statements, earlier}
 use Rattle.type_check.specs.TypedExpr.{done}
-use Rattle.type_check.specs.TypedExprView.{typed_size, exprs_size, stmts_size, exprs_of, stmts_of}
+use Rattle.type_check.specs.TypedExprView.{typed_size, exprs_size, stmts_size, arms_size, exprs_of, stmts_of, arms_of}
 use Rattle.type_check.proofs.running.+unrun.Given as goal
 
 abbrev pub decreases-unrun_in : goal.decreases-unrun_in
@@ -30,3 +30,9 @@ invariant-unrun_among-loop-i l = unrun_among (exprs_of (drop l.i l.es)) ≡ unru
 
 abbrev pub invariant-unrun_in_statements-loop-i : goal.invariant-unrun_in_statements-loop-i
 invariant-unrun_in_statements-loop-i l = unrun_in_statements (stmts_of (drop l.i l.stmts) done) ≡ unrun_in_statements (stmts_of l.stmts done)
+
+abbrev pub decreases-unrun_in_arms : goal.decreases-unrun_in_arms
+decreases-unrun_in_arms l = 2 * arms_size (arms_of l.arms.now)
+
+abbrev pub invariant-unrun_in_arms-loop-i : goal.invariant-unrun_in_arms-loop-i
+invariant-unrun_in_arms-loop-i l = unrun_in_arms (arms_of (drop l.i l.arms)) ≡ unrun_in_arms (arms_of l.arms)

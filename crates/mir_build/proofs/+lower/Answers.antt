@@ -11,11 +11,11 @@ use Rattle.mir_build.proofs.TaskStack.{popped_text, popped_labels, popped_locals
 use Rattle.mir_build.proofs.Runs.{running, args_at}
 use Rattle.mir_build.proofs.Bindings.{value_text}
 use Rattle.mir_build.proofs.Statements.{around_behind, text_on, labels_at, locals_at, text_end, within_on, front_on, types_on, loops_on}
-use Rattle.mir_build.proofs.expression.+lower.Goals.{lower_rest-then-statement+in_ok-push, lower_rest-else-statement, lower_rest-in-Unit+in_ok-put_unit-in-Unit, lower_rest-in-Value+in_ok-lower_into-in-Value, lower_rest-in-Leaves+in_ok-lower_new-in-Leaves}
-use Rattle.mir_build.proofs.expression.+lower.Goals as goal
+use Rattle.mir_build.proofs.+lower.Goals.{expression::lower_rest-then-statement+in_ok-push, expression::lower_rest-else-statement, expression::lower_rest-in-Unit+in_ok-put_unit-in-Unit, expression::lower_rest-in-Value+in_ok-lower_into-in-Value, expression::lower_rest-in-Leaves+in_ok-lower_new-in-Leaves}
+use Rattle.mir_build.proofs.+lower.Goals as goal
 
-pub lower_args-loop-e-preserved : goal.lower_args-loop-e-preserved
-lower_args-loop-e-preserved t c =
+pub expression::lower_args-loop-e-preserved : goal.expression::lower_args-loop-e-preserved
+expression::lower_args-loop-e-preserved t c =
     let e = args_at _ _ _ c.e-item.is c.loop-e-test.true in
     record {
       text = grind (arith, running, e);
@@ -27,8 +27,8 @@ lower_args-loop-e-preserved t c =
       operands = grind (arith, append_assoc, e);
     }
 
-pub lower_into-loop-task-preserved : goal.lower_into-loop-task-preserved
-lower_into-loop-task-preserved t c =
+pub expression::lower_into-loop-task-preserved : goal.expression::lower_into-loop-task-preserved
+expression::lower_into-loop-task-preserved t c =
     let old = c.loop-task.tasks.items in
     let rest = c.pop.new.self.items in
     let is = c.in-Some.ensures.items in
@@ -50,8 +50,8 @@ lower_into-loop-task-preserved t c =
       good = c.in_ok-do_task.ensures.good (popped_good old rest c.in-Some.task is c.loop-task.invariant.good).1;
     }
 
-pub lower_rest-loop-statement-preserved : goal.lower_rest-loop-statement-preserved
-lower_rest-loop-statement-preserved t c =
+pub expression::lower_rest-loop-statement-preserved : goal.expression::lower_rest-loop-statement-preserved
+expression::lower_rest-loop-statement-preserved t c =
     let ss = c.args.statements.now in
     let i = c.loop-statement.statement-index in
     let st = c.statement-item.result in
@@ -61,14 +61,14 @@ lower_rest-loop-statement-preserved t c =
     let old = around c.loop-statement.c in
     let known = c.loop-statement.invariant in
     let which : (b : Bool) × (st.binds ≡ b) × (around c.if-statement.c ≡ around_behind b old x) = elim c.if-statement.branch [
-      | lower_rest-then-statement+in_ok-push w ↦ (
+      | expression::lower_rest-then-statement+in_ok-push w ↦ (
         true,
         w.if-statement.true,
         ap around w.c-is
             ∙ ap (λ (xs : List Place). let r : Around = record { types = c.lower_new.new.c.types.now; scope = xs; loops = c.lower_new.new.c.loops.items } in r) w.in_ok-push.ensures.items
             ∙ ap (λ (p : Place). let r : Around = record { types = c.lower_new.new.c.types.now; scope = c.lower_new.new.c.scope.items ++ p ∷ []; loops = c.lower_new.new.c.loops.items } in r) w.whole.ensures ∙ ap (λ (a : Around). binds a x) c.in_ok-t.ensures.around,
       )
-      | lower_rest-else-statement w ↦ (false, w.if-statement.false, ap around w.c-is ∙ c.in_ok-t.ensures.around)
+      | expression::lower_rest-else-statement w ↦ (false, w.if-statement.false, ap around w.c-is ∙ c.in_ok-t.ensures.around)
     ] in
     let b = which.0 in
     let e = which.1 in
@@ -89,31 +89,31 @@ lower_rest-loop-statement-preserved t c =
       loops = loops_on b old x n known.before (around c.if-statement.c) which.2 ∙ known.loops;
     }
 
-pub lower_rest-returns-in_err-t-clause-limit : goal.lower_rest-returns-in_err-t-clause-limit
-lower_rest-returns-in_err-t-clause-limit t c =
+pub expression::lower_rest-returns-in_err-t-clause-limit : goal.expression::lower_rest-returns-in_err-t-clause-limit
+expression::lower_rest-returns-in_err-t-clause-limit t c =
     let st = c.statement-item.result in
     let here = labels_at c.args.statements.now c.loop-statement.statement-index st (end_of c.args.end) c.statement-item.is c.loop-statement-test.true st.binds refl in
     let p = err_from_is_err_and c.from_residual.result c.from_residual.ensures.1 in
     rw (p.1, p.2) (λ e. omega (arith, here, c.in_err-t.ensures.limit e, c.loop-statement.invariant.labels))
 
-pub lower_rest-returns-clause-text : goal.lower_rest-returns-clause-text
-lower_rest-returns-clause-text t c =
+pub expression::lower_rest-returns-clause-text : goal.expression::lower_rest-returns-clause-text
+expression::lower_rest-returns-clause-text t c =
     let end = end_of c.args.end in
     let old = around c.loop-statement.c in
     let text = c.loop-statement.b.text in
     let l = c.loop-statement.b.labels in
     let which : (c.match-end.b.text ≡ written (rest end c.args.outer c.args.span old l (length text.locals) c.args.d) text) × (around c.match-end.c ≡ old) = elim c.match-end.branch [
-      | lower_rest-in-Unit+in_ok-put_unit-in-Unit w ↦
+      | expression::lower_rest-in-Unit+in_ok-put_unit-in-Unit w ↦
           let z : end ≡ done = ap end_of w.in-Unit.is in (
             (λ j. (w.b-is j).text) ∙ w.in_ok-put_unit-in-Unit.ensures.text ∙ (λ j. written (rest (sym z j) c.args.outer c.args.span old l (length text.locals) c.args.d) text),
             ap around w.c-is,
           )
-      | lower_rest-in-Value+in_ok-lower_into-in-Value w ↦
+      | expression::lower_rest-in-Value+in_ok-lower_into-in-Value w ↦
           let z : end ≡ last w.in-Value.value.now = ap end_of w.in-Value.is in (
             (λ j. (w.b-is j).text) ∙ w.in_ok-lower_into-in-Value.ensures.text ∙ (λ j. written (rest (sym z j) c.args.outer c.args.span old l (length text.locals) c.args.d) text),
             ap around w.c-is ∙ w.in_ok-lower_into-in-Value.ensures.around,
           )
-      | lower_rest-in-Leaves+in_ok-lower_new-in-Leaves w ↦
+      | expression::lower_rest-in-Leaves+in_ok-lower_new-in-Leaves w ↦
           let z : end ≡ leaving w.in-Leaves.value.now = ap end_of w.in-Leaves.is in (
             (λ j. (w.b-is j).text) ∙ w.in_ok-lower_new-in-Leaves.ensures.text ∙ (λ j. written (value_text w.in-Leaves.value.now old l (w.in_ok-lower_new-in-Leaves.ensures.number j)) text)
                 ∙ (λ j. written (rest (sym z j) c.args.outer c.args.span old l (length text.locals) c.args.d) text),
