@@ -1,5 +1,5 @@
 -- The arms of a match fit: each is of the type that is asked, or leaves.
-use Rattle.std.proofs.Common.{◌≡◌, ◌∙◌, ◌⊎◌, inl, inr, Bool, true, false, List, [], ◌∷◌, ◌++◌, map, Option, Some, None, Result, Ok, refl, ap, sym, subst, append-nil}
+use Rattle.std.proofs.Common.{◌≡◌, ◌∙◌, ◌||◌, ◌⊎◌, inl, inr, length, Bool, true, false, List, [], ◌∷◌, ◌++◌, map, Option, Some, None, Result, Ok, refl, ap, sym, subst, append-nil}
 use Rattle.std.specs.Prelude.{if◌then◌else◌}
 use Rattle.text_core.specs.declared.refusal.SourceError.{SourceError}
 use Rattle.text_core.specs.declared.span.Span.{Span}
@@ -15,16 +15,19 @@ use Rattle.pat_types.proofs.Listed.{lists}
 use Rattle.type_check.specs.declared.scope.Variable.{Variable}
 use Rattle.type_check.specs.Answers.{absent}
 use Rattle.type_check.specs.Arms.{Binding, TypedArm, arm_of, arm_from, variable_of, in_arm, unbuilt_name, with_built_names, pattern_at, and_arm, or_else_arm}
+use Rattle.type_check.specs.declared.assertion.Assertion.{Assertion}
+use Rattle.type_check.specs.Breaks.{breaks}
 use Rattle.type_check.specs.Leaves.{leaves}
-use Rattle.type_check.specs.Setting.{Setting}
+use Rattle.type_check.specs.Setting.{Setting, looping, outside}
 use Rattle.type_check.specs.TypedExpr.{TypedExpr, TypedArms}
 use Rattle.type_check.specs.TypedExpr as tree
 use Rattle.type_check.specs.TypedExprView.{ty_of}
 use Rattle.type_check.specs.Types.{is_built}
-use Rattle.type_check.specs.Typing.{fit, asked, given, matched, chosen_by, nothing}
-use Rattle.type_check.specs.WellTyped.{unit, AllBuilt, IsOfOrLeaves, IsWellTyped, ArmsFit, PatternFits, tys_bound}
+use Rattle.type_check.specs.Typing.{fit, asked, given, matched, chosen_by, repeated_by, nothing}
+use Rattle.type_check.specs.WellTyped.{unit, EachSpeaks, AllBuilt, IsOfOrLeaves, IsWellTyped, ArmsFit, PatternFits, tys_bound}
 use Rattle.type_check.proofs.Bound.{bound, same_ok}
 use Rattle.type_check.proofs.BuiltTypes.{built_is_built}
+use Rattle.type_check.proofs.InLoops.{looped}
 use Rattle.type_check.proofs.Lookups.{types, surroundings}
 use Rattle.type_check.proofs.Sound.{Meets, Sound, MayAsk, Around, fit_sound, asked_built, given_built}
 
@@ -163,3 +166,28 @@ branched_sound σ Γ t s a x r w m p =
     let other : Sound σ Γ (given (Some unit) x.body) (nothing s) = record { well = refl; meets = nothing_meets (leaves x.body) x.body s m.body.meets; built = tt } in
     fit_sound σ Γ t s (tree.matched unit s a (or_else_arm (ty_of a) x (nothing s))) r
     (w, arms_fit σ Γ (ty_of a) (Some unit) (or_else_arm (ty_of a) x (nothing s)) tt (either_meets σ Γ (ty_of a) (Some unit) x (nothing s) m other)) tt p
+
+-- ---- `while let`
+
+other_is_unit : (k : Bool) (y : TypedExpr) → Meets (Some unit) y → asked (if k then Some unit else Some (ty_of y)) ≡ unit
+other_is_unit true y h = refl
+other_is_unit false y h = h
+
+leaving_meets : (k : Bool) (y : TypedExpr) (s : Span) → Meets (Some unit) y → Meets (if k then Some unit else Some (ty_of y)) (tree.break_off unit s)
+leaving_meets true y s h = refl
+leaving_meets false y s h = sym h
+
+or_at_last : (a b : Bool) → (a || (b || true)) ≡ true
+or_at_last true b = refl
+or_at_last false true = refl
+or_at_last false false = refl
+
+pub repeated_sound : (σ : Setting) (Γ : List Variable) (t : Option Ty) (s : Span) (is : List Assertion) (a : TypedExpr) (x : TypedArm) (r : TypedExpr) → EachSpeaks (length (types Γ)) is
+    → IsWellTyped (surroundings (outside σ)) (types Γ) a → Meeting (looping σ) Γ (ty_of a) (Some unit) x → fit t s (repeated_by s is a x) ≡ Ok r → Sound σ Γ t r
+repeated_sound σ Γ t s is a x r speaks w m p =
+    let off = tree.break_off unit s in
+    let other : Sound (looping σ) Γ (given (Some unit) x.body) off = record { well = (tt, refl); meets = leaving_meets (leaves x.body) x.body s m.body.meets; built = tt } in
+    let asks : MayAsk (given (Some unit) x.body) = given_built (leaves x.body) (Some unit) (ty_of x.body) tt m.body.built in
+    let arms = arms_fit (looping σ) Γ (ty_of a) (given (Some unit) x.body) (or_else_arm (ty_of a) x off) asks (either_meets (looping σ) Γ (ty_of a) (Some unit) x off m other) in
+    let fitting = subst (λ u. ArmsFit (surroundings (looping σ)) (types Γ) (ty_of a) u (or_else_arm (ty_of a) x off)) (other_is_unit (leaves x.body) x.body m.body.meets) arms in
+    fit_sound σ Γ t s (repeated_by s is a x) r (refl, or_at_last (breaks a) (breaks x.body), speaks, refl, (looped (surroundings σ) (types Γ) a w, fitting)) tt p

@@ -69,7 +69,7 @@ use Rattle.type_check.proofs.StatementLists.{block_ty_after, stmt_ty}
 use Rattle.type_check.proofs.BuiltTypes.{both, built_is_built}
 pub use Rattle.type_check.proofs.Sound.{Meets, Sound, MayAsk, Around, fit_same}
 use Rattle.type_check.proofs.Sound.{built_at, fit_sound, asked_built, given_built, types-append, all_built_append}
-use Rattle.type_check.proofs.ArmsFit.{AllMeet, arm_meets, arm_sound, matched_sound, chosen_sound, branched_sound}
+use Rattle.type_check.proofs.ArmsFit.{AllMeet, arm_meets, arm_sound, matched_sound, chosen_sound, branched_sound, repeated_sound}
 use Rattle.type_check.proofs.FoundParts.{field_has_type, number_has_type}
 use Rattle.type_check.proofs.WrittenTypes.{type_built}
 
@@ -682,6 +682,19 @@ mutual
       let sx = typed_sound (outside σ) Γ c (Some bool) x.0 (within_built false σ Γ ho) tt x.1 in
       let sy = typed_sound (looping σ) Γ b (Some unit) y.0 (within_built true σ Γ ho) tt y.1 in
       fit_sound σ Γ t s (tree.repeat unit s is.0 x.0 y.0) r (refl, invariants_speak Γ as' is.0 is.1, sx.meets, sy.meets, sx.well, sy.well) tt y.2
+  typed_sound σ Γ (E.repeat s (Some w) c b) t r ho ht p =
+      let a = bound (typed (outside σ) Γ c None) _ r p in
+      let x = bound (typed_arm (looping σ) Γ (ty_of a.0) (Some unit) w b) _ r a.2 in
+      let sa = typed_sound (outside σ) Γ c None a.0 (within_built false σ Γ ho) tt a.1 in
+      let sx = arm_sound (looping σ) Γ (ty_of a.0) (Some unit) w (λ g. typed (looping σ) (in_arm Γ g.1) b (Some unit)) x.0 (within_built true σ Γ ho) (λ g y hg q. typed_sound (looping σ) (in_arm Γ g.1) b (Some unit) y hg tt q) x.1 in
+      repeated_sound σ Γ t s [] a.0 x.0 r tt sa.well sx x.2
+  typed_sound σ Γ (E.attributed s as' (E.repeat v (Some w) c b)) t r ho ht p =
+      let is = bound (gather (invariant_of Γ) as') _ r p in
+      let a = bound (typed (outside σ) Γ c None) _ r is.2 in
+      let x = bound (typed_arm (looping σ) Γ (ty_of a.0) (Some unit) w b) _ r a.2 in
+      let sa = typed_sound (outside σ) Γ c None a.0 (within_built false σ Γ ho) tt a.1 in
+      let sx = arm_sound (looping σ) Γ (ty_of a.0) (Some unit) w (λ g. typed (looping σ) (in_arm Γ g.1) b (Some unit)) x.0 (within_built true σ Γ ho) (λ g y hg q. typed_sound (looping σ) (in_arm Γ g.1) b (Some unit) y hg tt q) x.1 in
+      repeated_sound σ Γ t s is.0 a.0 x.0 r (invariants_speak Γ as' is.0 is.1) sa.well sx x.2
   typed_sound σ Γ (E.panic s m text) t r ho ht p = panicked_sound σ Γ t s m r ht p
   typed_sound σ Γ (E.bare_return s) t r ho ht p = bare_return_sound σ Γ t s r ht p
   typed_sound σ Γ (E.return_with s e) t r ho ht p =

@@ -11,6 +11,7 @@ pub mod Dropped
 pub mod FieldParts
 pub mod Fits
 pub mod FoundParts
+pub mod InLoops
 pub mod Lookups
 pub mod Makers
 pub mod PartByPart

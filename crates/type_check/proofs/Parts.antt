@@ -1,5 +1,5 @@
 -- The parts of lists of expressions and statements are smaller than these, and what is seen of a node.
-use Rattle.std.proofs.Common.{◌≡◌, ℕ, zero, suc, ◌<◌, List, [], ◌∷◌, length, get_or, arith, ap, sym, ◌∙◌, Option, None}
+use Rattle.std.proofs.Common.{◌≡◌, ℕ, zero, suc, ◌<◌, List, [], ◌∷◌, length, get_or, arith, ap, sym, ◌∙◌, Option, Some, None}
 use Rattle.text_core.specs.declared.span.Span.{Span}
 use Rattle.source_trees.specs.declared.expr.ExprNode.{ExprNode}
 use Rattle.source_trees.specs.declared.expr.ExprNode.TheVariants as node
@@ -32,6 +32,10 @@ pub ruleset parts = (each_smaller, stmt_smaller, field_smaller)
 -- an expression that is seen to be a loop without a pattern
 pub loop_seen : (s : Span) (n m : ExprNode) (e : Expr) (o : Option Pat) (c b : Expr) → expr_of s n ≡ e → m ≡ n → m ≡ node.While o c b → o ≡ None → e ≡ repeat s None c b
 loop_seen s n m e o c b v d is q = sym v ∙ ap (expr_of s) (sym d ∙ is ∙ ap (λ o. node.While o c b) q)
+
+-- the same with a pattern
+pub loop_by_seen : (s : Span) (n m : ExprNode) (e : Expr) (o : Option Pat) (p : Pat) (c b : Expr) → expr_of s n ≡ e → m ≡ n → m ≡ node.While o c b → o ≡ Some p → e ≡ repeat s (Some p) c b
+loop_by_seen s n m e o p c b v d is q = sym v ∙ ap (expr_of s) (sym d ∙ is ∙ ap (λ o. node.While o c b) q)
 
 -- the same of `loop`
 pub endless_seen : (s : Span) (n m : ExprNode) (e b : Expr) → expr_of s n ≡ e → m ≡ n → m ≡ node.Loop b → e ≡ endless s b

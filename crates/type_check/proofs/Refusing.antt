@@ -46,7 +46,7 @@ use Rattle.type_check.specs.TypedExpr as tree
 use Rattle.type_check.specs.TypedExprView.{ty_of, stmts_of}
 use Rattle.type_check.specs.Types.{same_ty, is_signed_ty, is_built}
 use Rattle.type_check.specs.Typing.{Typed, fit, literal_kind, literal_of, literal, negated, is_bare, order_of, operands_of, operands, operation, operated, cast_parts, cast_from, widened, may_write, if_mutable, writing, assigned}
-use Rattle.type_check.specs.Typing.{is_updated, updated, local_of, made_alone, named_by, named, Called, of_function, of_maker, callee_of, params_of, call_of, how_many, first_of, rest_of, called, asked, block_ty, declared, behind, typed_stmt, without_last, closed, given, choice_ty, cause_of, nothing, returned, endless, in_a_loop, invariant_by, invariant_of, parts_of, tupled, is_boxed, part_number, part_if, field_of, part_by, parted, selected, next_field, fields_behind, no_field_left, literal_made, typed, typed_stmts, typed_args, typed_fields, typed_arm, typed_arms}
+use Rattle.type_check.specs.Typing.{is_updated, updated, local_of, made_alone, named_by, named, Called, of_function, of_maker, callee_of, params_of, call_of, how_many, first_of, rest_of, called, asked, block_ty, declared, behind, typed_stmt, without_last, closed, given, choice_ty, cause_of, nothing, returned, endless, in_a_loop, invariant_by, invariant_of, parts_of, tupled, is_boxed, part_number, part_if, field_of, part_by, parted, selected, next_field, fields_behind, no_field_left, literal_made, typed, typed_stmts, typed_args, typed_fields, typed_arm, typed_arms, repeated_by}
 use Rattle.type_check.specs.WellTyped.{unit, is_arithmetic, operation_ty, tys_of_exprs}
 use Rattle.type_check.specs.Written.{name_alone, written_type, written_or_none, name_or, declared_by, step_of}
 use Rattle.type_check.proofs.Bound.{yes}
@@ -505,6 +505,25 @@ mutual
           | inr x ↦ elim (stop (typed (looping σ) Γ b (Some unit)) _ e x.2) as (λ _. Causes σ Γ (E.attributed s as' (E.repeat v None c b)) e) [
             | inl q ↦ inr (inr (typed_stops (looping σ) Γ b (Some unit) e q))
             | inr y ↦ inl (inl (fit_stops t s (tree.repeat unit s is.0 x.0 y.0) e y.2))
+          ]
+        ]
+      ]
+  typed_stops σ Γ (E.repeat s (Some w) c b) t e p =
+      elim (stop (typed (outside σ) Γ c None) _ e p) as (λ _. Causes σ Γ (E.repeat s (Some w) c b) e) [
+        | inl q ↦ inr (inl (typed_stops (outside σ) Γ c None e q))
+        | inr v ↦ elim (stop (typed_arm (looping σ) Γ (ty_of v.0) (Some unit) w b) _ e v.2) as (λ _. Causes σ Γ (E.repeat s (Some w) c b) e) [
+          | inl q ↦ inr (inr (v.0, v.1, arm_stops (outside σ) Γ v.0 w (λ g. typed (looping σ) (in_arm Γ g.1) b (Some unit)) (λ Δ. Causes (looping σ) Δ b e) e (λ g h. typed_stops (looping σ) (in_arm Γ g.1) b (Some unit) e h) q))
+          | inr x ↦ inl (fit_stops t s (repeated_by s [] v.0 x.0) e x.2)
+        ]
+      ]
+  typed_stops σ Γ (E.attributed s as' (E.repeat y (Some w) c b)) t e p =
+      elim (stop (gather (invariant_of Γ) as') _ e p) as (λ _. Causes σ Γ (E.attributed s as' (E.repeat y (Some w) c b)) e) [
+        | inl q ↦ inl (inr (invariants_stop Γ as' e q))
+        | inr is ↦ elim (stop (typed (outside σ) Γ c None) _ e is.2) as (λ _. Causes σ Γ (E.attributed s as' (E.repeat y (Some w) c b)) e) [
+          | inl q ↦ inr (inl (typed_stops (outside σ) Γ c None e q))
+          | inr v ↦ elim (stop (typed_arm (looping σ) Γ (ty_of v.0) (Some unit) w b) _ e v.2) as (λ _. Causes σ Γ (E.attributed s as' (E.repeat y (Some w) c b)) e) [
+            | inl q ↦ inr (inr (v.0, v.1, arm_stops (outside σ) Γ v.0 w (λ g. typed (looping σ) (in_arm Γ g.1) b (Some unit)) (λ Δ. Causes (looping σ) Δ b e) e (λ g h. typed_stops (looping σ) (in_arm Γ g.1) b (Some unit) e h) q))
+            | inr x ↦ inl (inl (fit_stops t s (repeated_by s is.0 v.0 x.0) e x.2))
           ]
         ]
       ]

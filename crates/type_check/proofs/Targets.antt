@@ -29,7 +29,7 @@ use Rattle.type_check.specs.TypedExpr as tree
 use Rattle.type_check.specs.TypedExprView.{ty_of, stmts_of}
 use Rattle.type_check.specs.Types.{same_ty, is_signed_ty, is_built}
 use Rattle.type_check.specs.Typing.{fit, literal_kind, literal_of, literal, negated, is_bare, order_of, operands, operation, operated, cast_parts, cast_from, widened, is_mutable, may_write, assigned, is_updated, updated}
-use Rattle.type_check.specs.Typing.{local_of, made_alone, named_by, named, Called, of_function, of_maker, callee_of, params_of, call_of, called, asked, block_ty, without_last, closed, given, choice_ty, cause_of, nothing, returned, endless, invariant_of, parts_of, tupled, is_boxed, part_number, part_if, field_of, part_by, parted, selected, no_field_left, literal_made, typed, typed_stmts, typed_args, typed_fields, typed_arm, typed_arms}
+use Rattle.type_check.specs.Typing.{local_of, made_alone, named_by, named, Called, of_function, of_maker, callee_of, params_of, call_of, called, asked, block_ty, without_last, closed, given, choice_ty, cause_of, nothing, returned, endless, invariant_of, parts_of, tupled, is_boxed, part_number, part_if, field_of, part_by, parted, selected, no_field_left, literal_made, typed, typed_stmts, typed_args, typed_fields, typed_arm, typed_arms, repeated_by}
 use Rattle.type_check.specs.Arms.{or_else_arm}
 use Rattle.type_check.specs.Causes.{root_name}
 use Rattle.type_check.specs.Makers.{maker_of}
@@ -187,6 +187,15 @@ typed_named σ Γ (E.attributed s is (E.repeat v None c b)) t r p =
     let x = bound (typed (outside σ) Γ c (Some bool)) _ r is'.2 in
     let y = bound (typed (looping σ) Γ b (Some unit)) _ r x.2 in
     fit_named Γ None t s (tree.repeat unit s is'.0 x.0 y.0) r tt y.2
+typed_named σ Γ (E.repeat s (Some w) c b) t r p =
+    let a = bound (typed (outside σ) Γ c None) _ r p in
+    let x = bound (typed_arm (looping σ) Γ (ty_of a.0) (Some unit) w b) _ r a.2 in
+    fit_named Γ None t s (repeated_by s [] a.0 x.0) r tt x.2
+typed_named σ Γ (E.attributed s is (E.repeat v (Some w) c b)) t r p =
+    let is' = bound (gather (invariant_of Γ) is) _ r p in
+    let a = bound (typed (outside σ) Γ c None) _ r is'.2 in
+    let x = bound (typed_arm (looping σ) Γ (ty_of a.0) (Some unit) w b) _ r a.2 in
+    fit_named Γ None t s (repeated_by s is'.0 a.0 x.0) r tt x.2
 typed_named σ Γ (E.panic s m text) t r p = subst (IsNamed Γ None) (same_ok (tree.panics (asked t) s (cause_of m)) r p) tt
 typed_named σ Γ (E.bare_return s) t r p = subst (IsNamed Γ None) (same_ok (returned t s (nothing s)) r (held (same_ty unit σ.answer) _ (mismatch s) r p).1) tt
 typed_named σ Γ (E.return_with s e) t r p =

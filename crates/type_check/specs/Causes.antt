@@ -129,6 +129,8 @@ abbrev mutual
   Causes σ Γ (E.repeat s None c b) e = IsMismatch e ⊎ (Causes (outside σ) Γ c e ⊎ Causes (looping σ) Γ b e)
   -- or an attribute before the loop is no invariant
   Causes σ Γ (E.attributed s is (E.repeat r None c b)) e = (IsMismatch e ⊎ IsUnbuilt e) ⊎ (Causes (outside σ) Γ c e ⊎ Causes (looping σ) Γ b e)
+  Causes σ Γ (E.repeat s (Some p) c b) e = IsMismatch e ⊎ (Causes (outside σ) Γ c e ⊎ IsInArm (outside σ) Γ c p (λ Δ. Causes (looping σ) Δ b e) e)
+  Causes σ Γ (E.attributed s is (E.repeat r (Some p) c b)) e = (IsMismatch e ⊎ IsUnbuilt e) ⊎ (Causes (outside σ) Γ c e ⊎ IsInArm (outside σ) Γ c p (λ Δ. Causes (looping σ) Δ b e) e)
   -- what panics fits every type
   Causes σ Γ (E.panic s m text) e = ⊥
   -- without a value, the answer's type is unit

@@ -25,7 +25,7 @@ use Rattle.type_check.specs.Setting.{Setting, looping, outside}
 use Rattle.type_check.specs.TypedExpr.{TypedExpr, TypedExprs, TypedArms}
 use Rattle.type_check.specs.TypedExpr as tree
 use Rattle.type_check.specs.TypedExprView.{ty_of, stmts_of}
-use Rattle.type_check.specs.Typing.{Typed, fit, asked, literal, named, negated, is_bare, order_of, operands_of, operated, widened, assigned, updated, callee_of, first_of, rest_of, params_of, called, parts_of, tupled, parted, selected, next_field, fields_behind, no_field_left, literal_made, Opened, opened, declared, behind, typed_stmt, without_last, closed, given, chosen, matched, chosen_by, nothing, panicked, returned, bare_return, endless, in_a_loop, invariant_of, typed}
+use Rattle.type_check.specs.Typing.{Typed, fit, asked, literal, named, negated, is_bare, order_of, operands_of, operated, widened, assigned, updated, callee_of, first_of, rest_of, params_of, called, parts_of, tupled, parted, selected, next_field, fields_behind, no_field_left, literal_made, Opened, opened, declared, behind, typed_stmt, without_last, closed, given, chosen, matched, chosen_by, repeated_by, nothing, panicked, returned, bare_return, endless, in_a_loop, invariant_of, typed}
 use Rattle.type_check.specs.WellTyped.{unit, is_arithmetic}
 use Rattle.type_check.specs.Written.{step_of, written_type}
 
@@ -109,6 +109,9 @@ rule σ Γ (E.matching s e as') t = part σ Γ e None λ a. each_arm σ Γ (ty_o
 rule σ Γ (E.repeat s None c b) t = part (outside σ) Γ c (Some bool) λ x. part (looping σ) Γ b (Some unit) λ y. comes (fit t s (tree.repeat unit s [] x y))
 -- a loop with its invariants, from the first attribute on
 rule σ Γ (E.attributed s is (E.repeat r None c b)) t = first (gather (invariant_of Γ) is) λ is'. part (outside σ) Γ c (Some bool) λ x. part (looping σ) Γ b (Some unit) λ y. comes (fit t s (tree.repeat unit s is' x y))
+rule σ Γ (E.repeat s (Some p) c b) t = part (outside σ) Γ c None λ a. an_arm (looping σ) Γ (ty_of a) (Some unit) p b λ x. comes (fit t s (repeated_by s [] a x))
+rule σ Γ (E.attributed s is (E.repeat r (Some p) c b)) t =
+    first (gather (invariant_of Γ) is) λ is'. part (outside σ) Γ c None λ a. an_arm (looping σ) Γ (ty_of a) (Some unit) p b λ x. comes (fit t s (repeated_by s is' a x))
 rule σ Γ (E.panic s m text) t = comes (panicked t s m)
 rule σ Γ (E.bare_return s) t = comes (bare_return σ.answer t s)
 rule σ Γ (E.return_with s e) t = part σ Γ e (Some σ.answer) λ a. comes (Ok (returned t s a))

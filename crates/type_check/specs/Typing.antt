@@ -1,7 +1,7 @@
 -- Which variable each name means and which type each expression has, in the form of bidirectional typing (Pierce and Turner
 -- 2000): without an expected type an expression gives one, with one it fits it (Rust Reference, "Operator expressions", "Type cast expressions",
 -- "Call expressions", "Tuple expressions", "Tuple indexing expressions", "Field access expressions", "Struct expressions", "Block expressions",
--- "if expressions", "if let expressions", "match expressions", "Predicate loops", "Infinite loops", "break expressions", "continue expressions", "return expressions", "Diverging expressions"). What has no row is not built.
+-- "if expressions", "if let expressions", "match expressions", "Predicate loops", "Predicate pattern loops", "Infinite loops", "break expressions", "continue expressions", "return expressions", "Diverging expressions"). What has no row is not built.
 use Rattle.std.specs.Prelude.{ℕ, suc, ℤ, pos, ◌==◌, ◌++◌, Bool, true, false, List, [], ◌∷◌, length, map, Option, Some, None, Result, Ok, Err, slice_get, if◌then◌else◌}
 use Rattle.text_core.specs.declared.name.Name.{Name}
 use Rattle.text_core.specs.declared.refusal.Cause.{Cause}
@@ -437,6 +437,10 @@ matched t s a p = fit t s (tree.matched (asked p.1) s a p.0)
 abbrev pub chosen_by : Option Ty → Span → (value : TypedExpr) → TypedArm → (second : TypedExpr) → Typed
 chosen_by t s a x z = matched t s a (or_else_arm (ty_of a) x z, given (given t x.body) z)
 
+-- `while let`: a loop that is left where the value does not match
+abbrev pub repeated_by : Span → List Assertion → (value : TypedExpr) → TypedArm → TypedExpr
+repeated_by s is a x = tree.until_break unit s is (tree.matched unit s a (or_else_arm (ty_of a) x (tree.break_off unit s)))
+
 -- ---- what always panics
 
 abbrev pub cause_of : PanicMacro → Cause
@@ -562,6 +566,15 @@ abbrev mutual
     x ← typed (outside σ) Γ c (Some bool)
     y ← typed (looping σ) Γ b (Some unit)
     fit t s (tree.repeat unit s is' x y)
+  typed σ Γ (E.repeat s (Some p) c b) t = do
+    a ← typed (outside σ) Γ c None
+    x ← arm_from (pattern_at σ.types (ty_of a) p) (λ g. typed (looping σ) (in_arm Γ g.1) b (Some unit))
+    fit t s (repeated_by s [] a x)
+  typed σ Γ (E.attributed s is (E.repeat r (Some p) c b)) t = do
+    is' ← gather (invariant_of Γ) is
+    a ← typed (outside σ) Γ c None
+    x ← arm_from (pattern_at σ.types (ty_of a) p) (λ g. typed (looping σ) (in_arm Γ g.1) b (Some unit))
+    fit t s (repeated_by s is' a x)
   typed σ Γ (E.panic s m text) t = panicked t s m
   typed σ Γ (E.bare_return s) t = bare_return σ.answer t s
   typed σ Γ (E.return_with s e) t = do

@@ -4,9 +4,10 @@ ghost use Rattle.type_check.specs.Answers.{Answers, AnswersAs};
 ghost use Rattle.type_check.specs.Arms.{arm_by, in_arm, or_else_arm, pattern_at, unbuilt_name};
 ghost use Rattle.type_check.specs.TypedExpr as tree;
 ghost use Rattle.type_check.specs.TypedExprView.{arms_of, ty_of};
-ghost use Rattle.type_check.specs.Typing.{chosen_by, fit, matched, nothing};
+ghost use Rattle.type_check.specs.Typing.{chosen_by, fit, matched, nothing, repeated_by};
 ghost use Rattle.type_check.specs.WellTyped.{unit};
 
+use crate::assertion::Assertion;
 use crate::refusal::unbuilt;
 use crate::scope::Variable;
 use crate::typed::{TypedArm, TypedExpr, TypedNode};
@@ -146,5 +147,31 @@ pub(crate) fn branched_by(
     };
     let arms = or_else_arm(alloc, ty_of(&value), arm, nothing)?;
     let node = TypedNode::Match(value, arms);
+    fit(alloc, expected, span, Ty::unit(alloc), span, node)
+}
+
+/// `while let`: a loop that is left where the value does not match.
+pub(crate) fn repeated_by(
+    alloc: Global,
+    expected: &Option<Ty>,
+    span: Span,
+    invariants: Vec<Assertion>,
+    value: TypedExpr,
+    arm: TypedArm,
+) -> Result<TypedExpr, PassError>
+    ensures { Answers result (fit expected.now span (repeated_by span invariants.items value (arm_by arm))) }
+{
+    let leaving = TypedExpr {
+        ty: Ty::unit(alloc),
+        span,
+        node: Box::new(alloc, TypedNode::Break)?,
+    };
+    let arms = or_else_arm(alloc, ty_of(&value), arm, leaving)?;
+    let turn = TypedExpr {
+        ty: Ty::unit(alloc),
+        span,
+        node: Box::new(alloc, TypedNode::Match(value, arms))?,
+    };
+    let node = TypedNode::LoopUntilBreak(invariants, turn);
     fit(alloc, expected, span, Ty::unit(alloc), span, node)
 }

@@ -12,8 +12,8 @@ ghost use Rattle.type_check.specs.WellTyped.{is_arithmetic};
 use crate::calling::{callee_of, params_of, with_arguments};
 use crate::casting::{cast_spans, cast_to, widened};
 use crate::chain::{Above, Descent, Frame, Operation, descend, finish, right_of, second_ty};
-use crate::elaborate::invariants_of;
 use crate::literals::{literal_made, next_field, no_field_left};
+use crate::loops::{type_loop, type_while, type_while_by};
 use crate::making::{Maker, maker_of};
 use crate::matching::{type_branch_by, type_choice_by, type_match};
 use crate::naming::named;
@@ -27,9 +27,9 @@ use crate::tuples::{parts_of, tupled};
 use crate::typed::{TypedExpr, TypedNode, TypedStmt};
 use crate::types::is_arithmetic;
 use crate::typing::{
-    assigned, bare_return, branch, choice, denied, endless, given_by, given_ty, in_a_loop, is_bare,
-    lazy, literal, negated, operated, order_of, panicked, param_ty, repeat, returned, span_of,
-    spans_at, truth, updated,
+    assigned, bare_return, branch, choice, denied, given_by, given_ty, in_a_loop, is_bare, lazy,
+    literal, negated, operated, order_of, panicked, param_ty, returned, span_of, spans_at, truth,
+    updated,
 };
 use crate::written::{step_of, written_type};
 use logic_term::{Ty, VariantKind};
@@ -206,6 +206,17 @@ fn type_form(
             condition,
             body,
         ),
+        ExprNode::While(Some(pattern), value, body) => type_while_by(
+            alloc,
+            setting,
+            scope,
+            expected,
+            whole,
+            &[],
+            pattern,
+            value,
+            body,
+        ),
         ExprNode::Attributed(attributes, e) => type_attributed(
             alloc,
             setting,
@@ -228,7 +239,6 @@ fn type_form(
             TypedNode::Continue,
         ),
         ExprNode::Receiver
-        | ExprNode::While(Some(_), _, _)
         | ExprNode::Closure(_, _, _, _, _)
         | ExprNode::Ghost(_, _)
         | ExprNode::Borrow(_, _)
@@ -494,51 +504,6 @@ fn type_choice(
     choice(alloc, expected, whole, condition, yes, no)
 }
 
-/// `while` with the attributes before it, which are its invariants.
-#[cycle(type_expr)]
-#[tactic(auto, using(crate::proofs::Parts::parts))]
-fn type_while(
-    alloc: Global,
-    setting: &Setting<'_>,
-    scope: &mut Vec<Variable>,
-    expected: &Option<Ty>,
-    whole: Span,
-    attributes: &[Attribute],
-    condition: &Expr,
-    body: &Expr,
-) -> Result<TypedExpr, PassError>
-    ensures answers { Answers result (typed (setting_of setting.now) scope.old.items (E.attributed whole attributes.now (E.repeat whole None condition.now body.now)) expected.now) }
-    ensures kept { OnOk result (scope.new.items ≡ scope.old.items) }
-{
-    let invariants = invariants_of(alloc, scope.as_slice(), attributes)?;
-    let outside = setting.within(false);
-    let condition = type_expr(alloc, &outside, scope, condition, &Some(Ty::bool()))?;
-    let inside = setting.within(true);
-    let body = type_expr(alloc, &inside, scope, body, &Some(Ty::unit(alloc)))?;
-    repeat(alloc, expected, whole, invariants, condition, body)
-}
-
-/// `loop` with the attributes before it, which are its invariants.
-#[cycle(type_expr)]
-#[tactic(auto, using(crate::proofs::Parts::parts))]
-fn type_loop(
-    alloc: Global,
-    setting: &Setting<'_>,
-    scope: &mut Vec<Variable>,
-    expected: &Option<Ty>,
-    whole: Span,
-    attributes: &[Attribute],
-    body: &Expr,
-) -> Result<TypedExpr, PassError>
-    ensures answers { Answers result (typed (setting_of setting.now) scope.old.items (E.attributed whole attributes.now (E.endless whole body.now)) expected.now) }
-    ensures kept { OnOk result (scope.new.items ≡ scope.old.items) }
-{
-    let invariants = invariants_of(alloc, scope.as_slice(), attributes)?;
-    let inside = setting.within(true);
-    let body = type_expr(alloc, &inside, scope, body, &Some(Ty::unit(alloc)))?;
-    endless(alloc, expected, whole, invariants, body)
-}
-
 /// `return` with a value.
 #[cycle(type_expr)]
 #[tactic(auto, using(crate::proofs::Parts::parts))]
@@ -578,7 +543,9 @@ fn type_attributed(
             None => type_while(
                 alloc, setting, scope, expected, whole, attributes, condition, body,
             ),
-            Some(_) => Err(unbuilt(whole)),
+            Some(pattern) => type_while_by(
+                alloc, setting, scope, expected, whole, attributes, pattern, condition, body,
+            ),
         },
         ExprNode::Loop(body) => type_loop(alloc, setting, scope, expected, whole, attributes, body),
         _ => Err(unbuilt(whole)),

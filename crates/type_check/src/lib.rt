@@ -17,6 +17,7 @@ mod leaving;
 mod lists;
 mod literals;
 mod logic;
+mod loops;
 mod making;
 mod matching;
 mod naming;

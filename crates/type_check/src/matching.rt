@@ -119,7 +119,7 @@ fn type_arms(
 
 /// An arm of the pattern, whose names are in scope in its body.
 #[cycle(type_expr)]
-fn type_arm(
+pub(crate) fn type_arm(
     alloc: Global,
     setting: &Setting<'_>,
     scope: &mut Vec<Variable>,

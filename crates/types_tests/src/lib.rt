@@ -1,4 +1,4 @@
-//! Tests of the table of declared types, of which types are `Copy`, of assignments, of what leaves, of `break` and `continue`, of tuples, of structs in functions, of casts, of `match` and `if let`, and of what does not run yet.
+//! Tests of the table of declared types, of which types are `Copy`, of assignments, of what leaves, of `break` and `continue`, of tuples, of structs in functions, of casts, of `match`, `if let` and `while let`, and of what does not run yet.
 #![tactic(auto)]
 
 #[cfg(test)]

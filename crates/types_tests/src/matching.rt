@@ -1,9 +1,9 @@
-//! `match` and `if let`, from the texts of sources. No match is lowered so far, so one that has a type is E20 at its place, where nothing else is refused.
+//! `match`, `if let` and `while let`, from the texts of sources. No match is lowered so far, so one that has a type is E20 at its place, where nothing else is refused.
 use crate::assigning::{Row, expect};
 use std::test::Fail;
 use text_core::Code;
 
-const TYPED: [Row; 10] = [
+const TYPED: [Row; 9] = [
     (
         b"fn f(b: bool) -> i32 { match b { true => 1, false => 2 } }",
         Some((Code::E20, 23, 56)),
@@ -31,10 +31,6 @@ const TYPED: [Row; 10] = [
     (
         b"fn f() -> i32 { match 1 { 1 => 2, _ => 3 } }",
         Some((Code::E20, 16, 42)),
-    ),
-    (
-        b"enum V {} fn f(v: V) -> u8 { match v {} }",
-        Some((Code::E20, 29, 39)),
     ),
     (
         b"fn f(n: u8) -> u8 { match n { mut m => { m = 1; m } } }",
@@ -151,7 +147,52 @@ fn names_are_in_scope_in_their_arm(rt: HostRuntime) {
     expect(&rt, rt.alloc(), &SCOPES);
 }
 
-const REFUSED: [Row; 11] = [
+const LOOPS: [Row; 9] = [
+    (
+        b"fn f(o: Option<u8>) { while let Some(x) = o { x; } }",
+        Some((Code::E20, 22, 50)),
+    ),
+    (
+        b"fn f(o: Option<u8>) { #[invariant(true)] while let Some(x) = o { break; } }",
+        Some((Code::E20, 22, 73)),
+    ),
+    (
+        b"fn f(o: Option<u8>) { loop { while let Some(x) = o { if x > 1 { continue; } } } }",
+        Some((Code::E20, 29, 77)),
+    ),
+    (
+        b"fn f(o: Option<u8>) { while let Some(x) = o { x } }",
+        Some((Code::E07, 46, 47)),
+    ),
+    (
+        b"fn f(o: Option<u8>) { while let Some(x) = o {} x; }",
+        Some((Code::E05, 47, 48)),
+    ),
+    (
+        b"fn f(o: Option<u8>) { while let true = o {} }",
+        Some((Code::E07, 32, 36)),
+    ),
+    (
+        b"fn f() { loop { while let true = break {} } }",
+        Some((Code::E07, 33, 38)),
+    ),
+    (
+        b"fn f(o: Option<u8>) { #[variant(1)] while let Some(x) = o {} }",
+        Some((Code::E20, 22, 35)),
+    ),
+    (
+        b"fn f(o: Option<u8>) -> u8 { while let Some(x) = o {} }",
+        Some((Code::E07, 28, 52)),
+    ),
+];
+
+/// `while let` binds its names in its body alone, which is unit and stands in the loop, and its value stands in none.
+#[test]
+fn loops_have_patterns(rt: HostRuntime) {
+    expect(&rt, rt.alloc(), &LOOPS);
+}
+
+const REFUSED: [Row; 10] = [
     (
         b"fn f(b: bool) -> i32 { match b { 1 => 1, _ => 2 } }",
         Some((Code::E07, 33, 34)),
@@ -191,10 +232,6 @@ const REFUSED: [Row; 11] = [
     (
         b"fn f(b: bool) { match b { _ => {} } } fn g() -> u8 { true }",
         Some((Code::E07, 53, 57)),
-    ),
-    (
-        b"fn f(o: Option<u8>) { while let Some(x) = o { x; } }",
-        Some((Code::E20, 22, 50)),
     ),
 ];
 

@@ -19,7 +19,7 @@ use Rattle.type_check.proofs.Chains.{climbed_refuses, sizes_up, up, up_refuses}
 use Rattle.type_check.specs.Literals.{made_by}
 use Rattle.type_check.proofs.FieldParts.{fields_end, fields_more}
 use Rattle.type_check.proofs.PartByPart.{along}
-use Rattle.type_check.proofs.Parts.{endless_seen, loop_seen}
+use Rattle.type_check.proofs.Parts.{endless_seen, loop_by_seen, loop_seen}
 use Rattle.type_check.proofs.StatementLists.{scope_stays}
 use Rattle.type_check.proofs.+type_expr.Goals as goal
 
@@ -123,6 +123,11 @@ pub expressions::type_attributed-returns-in-None-clause-answers : goal.expressio
 expressions::type_attributed-returns-in-None-clause-answers t c =
     let is = loop_seen c.e.inside.span c.e.inside.node.value c.deref.result.now c.args.e.now c.in-While.pattern c.in-While.condition c.in-While.body c.e.view_is c.deref.ensures c.in-While.is c.in-None.is in
     subst (λ e. Answers c.type_while.result (typed (setting_of c.args.setting.now) c.args.scope.now.items (E.attributed c.args.whole c.args.attributes.now e) c.args.expected.now)) (sym is) c.type_while.ensures.answers
+
+pub expressions::type_attributed-returns-in-Some-clause-answers : goal.expressions::type_attributed-returns-in-Some-clause-answers
+expressions::type_attributed-returns-in-Some-clause-answers t c =
+    let is = loop_by_seen c.e.inside.span c.e.inside.node.value c.deref.result.now c.args.e.now c.in-While.pattern c.in-Some.pattern c.in-While.condition c.in-While.body c.e.view_is c.deref.ensures c.in-While.is c.in-Some.is in
+    subst (λ e. Answers c.type_while_by.result (typed (setting_of c.args.setting.now) c.args.scope.now.items (E.attributed c.args.whole c.args.attributes.now e) c.args.expected.now)) (sym is) c.type_while_by.ensures.answers
 
 pub expressions::type_attributed-returns-in-Loop-clause-answers : goal.expressions::type_attributed-returns-in-Loop-clause-answers
 expressions::type_attributed-returns-in-Loop-clause-answers t c =

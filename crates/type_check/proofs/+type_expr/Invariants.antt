@@ -84,11 +84,11 @@ decreases-expressions::type_branch l = 5 * max (expr_size l.condition.now) (expr
 abbrev pub decreases-expressions::type_choice : goal.decreases-expressions::type_choice
 decreases-expressions::type_choice l = 5 * max (expr_size l.condition.now) (max (expr_size l.yes.now) (expr_size l.no.now)) + 2
 
-abbrev pub decreases-expressions::type_while : goal.decreases-expressions::type_while
-decreases-expressions::type_while l = 5 * max (expr_size l.condition.now) (expr_size l.body.now) + 2
+abbrev pub decreases-loops::type_while : goal.decreases-loops::type_while
+decreases-loops::type_while l = 5 * max (expr_size l.condition.now) (expr_size l.body.now) + 2
 
-abbrev pub decreases-expressions::type_loop : goal.decreases-expressions::type_loop
-decreases-expressions::type_loop l = 5 * expr_size l.body.now + 2
+abbrev pub decreases-loops::type_loop : goal.decreases-loops::type_loop
+decreases-loops::type_loop l = 5 * expr_size l.body.now + 2
 
 abbrev pub decreases-expressions::type_return : goal.decreases-expressions::type_return
 decreases-expressions::type_return l = 5 * expr_size l.value.now + 2
@@ -142,3 +142,6 @@ invariant-matching::type_arms-loop-i l = record {
   kept : l.scope.items ≡ l.fn.scope.items;
   so_far : typed_arms (setting_of l.setting) l.fn.scope.items l.ty l.expected no_arms (arms_of l.arms) ≡ typed_arms (setting_of l.setting) l.fn.scope.items l.ty l.asked (typed_arms_of l.typed.items) (arms_of (drop l.i l.arms));
 }
+
+abbrev pub decreases-loops::type_while_by : goal.decreases-loops::type_while_by
+decreases-loops::type_while_by l = 5 * max (expr_size l.value.now) (expr_size l.body.now) + 3
