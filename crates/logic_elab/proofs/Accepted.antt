@@ -14,6 +14,15 @@ pub held : {A : Type 0} (b : Bool) (m : Result A SourceError) (e : SourceError) 
 held true m e x p = (refl, p)
 held false m e x p = absurd (cc)
 
+-- where the test refuses, none is
+pub unless : {A : Type 0} (b : Bool) (m : Result A SourceError) (e : SourceError) (x : A) → (if b then Err e else m) ≡ Ok x → m ≡ Ok x
+unless true m e x p = absurd (cc)
+unless false m e x p = p
+
+pub refused : {A : Type 0} (b : Bool) (e f : SourceError) (x : A) → (if b then Err e else Err f) ≡ Ok x → ⊥
+refused true e f x p = absurd (cc)
+refused false e f x p = absurd (cc)
+
 -- a value that is accepted
 abbrev pub yes : {A : Type 0} → A → Result A SourceError
 yes a = Ok a

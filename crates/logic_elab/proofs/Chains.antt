@@ -40,6 +40,7 @@ module _ (Γ : Scope) (bs : List Symbol) where
   left_operand : (s : Span) (o : TermOperation) → elaborated_under Γ bs (written s o) ≡ (elaborated_under Γ bs (left_of o) >>= behind Γ bs o)
   left_operand s (operation.View t) = refl
   left_operand s (operation.Part r t k) = refl
+  left_operand s (operation.Field r t x) = refl
   left_operand s (operation.Calculate op t u) = refl
   left_operand s (operation.Compare op t u) = refl
   left_operand s (operation.Connect connective.And t u) = left_first (connection connective.And) (span_of t.now) (elaborated_under Γ bs t.now) (asserted_under Γ bs u.now)
@@ -77,6 +78,7 @@ module _ (Γ : Scope) (bs : List Symbol) where
 pub written_size : (s : Span) (o : TermOperation) → max (suc (pterm_size (left_of o))) (operation_size o) ≡ pterm_size (written s o)
 written_size s (operation.View t) = omega arith
 written_size s (operation.Part r t k) = omega arith
+written_size s (operation.Field r t x) = omega arith
 written_size s (operation.Calculate op t u) = omega arith
 written_size s (operation.Compare op t u) = omega arith
 written_size s (operation.Connect op t u) = omega arith

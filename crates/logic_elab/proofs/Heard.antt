@@ -17,17 +17,20 @@ use Rattle.source_trees.specs.Pterm as T
 use Rattle.source_trees.specs.Pterm.{Pterm}
 use Rattle.source_trees.specs.PtermView.{span_of}
 use Rattle.logic_term.specs.declared.kinds.Ctor.TheVariants.{Tuple}
-use Rattle.logic_term.specs.Sorted.{sort_at}
+use Rattle.logic_term.specs.Sorted.{FieldSort}
 use Rattle.logic_term.specs.Term.{Term, Terms, apply, made, no_terms, and_term as and_terms, part as part_term, var, lit, truth as truth_term, model, negative as negative_term, not as not_term, calculate, is_less, is_at_most, is_equal, and as and_term, or as or_term, implies as implies_term, Quantifier, bind, if_else}
-use Rattle.logic_term.specs.Ty.{Ty, Tys, int, bool, math_int, tuple, adt, no_tys, and_ty}
+use Rattle.logic_term.specs.Ty.{Ty, Tys, int, bool, math_int, tuple, no_tys, and_ty}
 use Rattle.logic_elab.specs.declared.scope.Symbol.{Symbol}
 use Rattle.logic_elab.specs.declared.sorted.SortedTerm.{SortedTerm}
-use Rattle.logic_elab.specs.Answers.{◌>>=◌, mismatch, pair}
+use Rattle.logic_elab.specs.Answers.{◌>>=◌, mismatch, unbuilt, unknown_name, pair}
 use Rattle.logic_elab.specs.Binders.{meant_under, inside, symbols_of, bound_all}
-use Rattle.logic_elab.specs.Elaborated.{sorted, literal, name_alone, symbol_or, name_term, named_term, answer_or, answer_term, model_of_sort, model_of, formula, number, ordered, is_ordering, ordered_at, compared, connected, quantifier_of, chosen, SortedTerms, no_parts, and_part, part_number, part_or, part_at, part_of_sort, part_of, elaborated_under, elaborated_parts}
+use Rattle.logic_elab.specs.Elaborated.{sorted, literal, name_alone, symbol_or, name_term, named_term, answer_or, answer_term, model_of_sort, model_of, formula, number, ordered, is_ordering, ordered_at, compared, connected, quantifier_of, chosen, SortedTerms, no_parts, and_part, has_lifetimes, part_by, parted, selected, elaborated_under, elaborated_parts}
 use Rattle.logic_elab.specs.Scope.{Scope}
 use Rattle.logic_elab.specs.Sorts.{same_ty, is_math_int, is_bool}
-use Rattle.logic_elab.proofs.Accepted.{bound, held, yes, same_ok}
+use Rattle.type_parts.specs.Laws.{IsPart}
+use Rattle.type_parts.specs.Parts.{field_of, is_boxed, part_if, part_number}
+use Rattle.type_parts.proofs.Found.{found_parts}
+use Rattle.logic_elab.proofs.Accepted.{bound, held, unless, refused, yes, same_ok}
 use Rattle.logic_elab.proofs.SameSorts.{equal_types}
 
 -- P holds of each term, at the sort at its place
@@ -55,7 +58,7 @@ pub record IsKept (P : Ty → Term → Type 0) (Γ : Scope) (bs : List Symbol) :
   pub implications : (t u : Term) → P bool t → P bool u → P bool (implies_term t u)
   pub choices : (s : Ty) (c t u : Term) → P bool c → P s t → P s u → P s (if_else c t u)
   pub tuples : (ss : Tys) (ts : Terms) → Each P ss ts → P (tuple ss) (apply (made Tuple) ts)
-  pub parts : (ss : Tys) (n : ℕ) (s : Ty) (t : Term) → sort_at ss n ≡ Some s → P (tuple ss) t → P s (part_term n t)
+  pub parts : (r : Ty) (n : ℕ) (s : Ty) (t : Term) → FieldSort (record { adts = Γ.types }) r n s → P r t → P s (part_term n t)
 
 bool_sort : (t : Ty) → is_bool t ≡ true → t ≡ bool
 bool_sort bool e = refl
@@ -153,24 +156,20 @@ module _ (P : Ty → Term → Type 0) (Γ : Scope) (bs : List Symbol) (kept : Is
       let q = held (same_ty b.sort a.sort) (Ok (sorted a.sort (if_else c a.term b.term))) (mismatch s) r p in
       given a.sort (if_else c a.term b.term) r (kept.choices a.sort c a.term b.term f h (subst (λ u. P u b.term) (equal_types b.sort a.sort q.0) k)) q.1
 
-  -- ---- tuples
+  -- ---- tuples, parts and fields
 
-  part_or_holds : (ss : Tys) (s : Span) (t : Term) (n : ℕ) (o : Option Ty) (r : SortedTerm) → sort_at ss n ≡ o → P (tuple ss) t → part_or s t n o ≡ Ok r → Of r
-  part_or_holds ss s t n None r e h p = absurd (cc)
-  part_or_holds ss s t n (Some u) r e h p = given u (part_term n t) r (kept.parts ss n u t e h) p
+  part_by_holds : (s s' : Span) (a : SortedTerm) (o : Option (ℕ × Ty)) (r : SortedTerm) → Of a → IsPart Γ.types a.sort o → part_by s s' a o ≡ Ok r → Of r
+  part_by_holds s s' a None r h i p = absurd (refused (is_boxed a.sort) (unbuilt s) (unknown_name s') r p)
+  part_by_holds s s' a (Some q) r h i p =
+      given q.1 (part_term q.0 a.term) r (kept.parts a.sort q.0 q.1 a.term i h) (unless (has_lifetimes a.sort) (Ok (sorted q.1 (part_term q.0 a.term))) (unbuilt s) r p)
 
-  part_at_holds : (ss : Tys) (s : Span) (t : Term) (n : Option ℕ) (r : SortedTerm) → P (tuple ss) t → part_at s t ss n ≡ Ok r → Of r
-  part_at_holds ss s t None r h p = absurd (cc)
-  part_at_holds ss s t (Some n) r h p = part_or_holds ss s t n (sort_at ss n) r refl h p
+  part_holds : (s : Span) (k : Number) (a r : SortedTerm) → Of a → parted Γ.types s k a ≡ Ok r → Of r
+  unfolding parted
+  part_holds s k a r h p = part_by_holds s k.span a (part_if Γ.types a.sort (part_number k)) r h ((found_parts Γ.types a.sort).1 (part_number k)) p
 
-  part_of_sort_holds : (u : Ty) (s s' : Span) (t : Term) (n : Option ℕ) (r : SortedTerm) → P u t → part_of_sort u s s' t n ≡ Ok r → Of r
-  part_of_sort_holds (tuple ss) s s' t n r h p = part_at_holds ss s' t n r h p
-  part_of_sort_holds (adt d rs ts) s s' t n r h p = absurd (cc)
-  part_of_sort_holds u s s' t n r h p = absurd (cc)
-
-  part_holds : (s : Span) (k : Number) (a r : SortedTerm) → Of a → part_of s k a ≡ Ok r → Of r
-  unfolding part_of
-  part_holds s k a r h p = part_of_sort_holds a.sort s k.span a.term (part_number k) r h p
+  field_holds : (s : Span) (x : Segment) (a r : SortedTerm) → Of a → selected Γ.types s x a ≡ Ok r → Of r
+  unfolding selected
+  field_holds s x a r h p = part_by_holds s x.span a (field_of Γ.types x.name a.sort) r h ((found_parts Γ.types a.sort).0 x.name) p
 
   abbrev AllOf : SortedTerms → Type 0
   AllOf ps = Each P ps.sorts ps.terms
@@ -258,6 +257,9 @@ module _ (P : List Symbol → Ty → Term → Type 0) (Γ : Scope) (kept : (bs :
     holds_of_each bs (T.part s t k) r p =
         let a = bound (elaborated_under Γ bs t) _ r p in
         part_holds (P bs) Γ bs (kept bs) s k a.0 r (holds_of_each bs t a.0 a.1) a.2
+    holds_of_each bs (T.field s t x) r p =
+        let a = bound (elaborated_under Γ bs t) _ r p in
+        field_holds (P bs) Γ bs (kept bs) s x a.0 r (holds_of_each bs t a.0 a.1) a.2
     holds_of_each bs t r p = absurd (cc)
 
     parts_hold : (bs : List Symbol) (ts : T.Terms) (ps : SortedTerms) → elaborated_parts Γ bs ts ≡ Ok ps → Each (P bs) ps.sorts ps.terms

@@ -1,10 +1,8 @@
 -- The parts of a tuple, one after another.
-use Rattle.std.proofs.Common.{◌≡◌, ◌∙◌, ℕ, zero, suc, ◌+◌, ◌<◌, List, [], ◌∷◌, ◌++◌, length, get_or, drop, refl, ap, ap₂, sym, add-one, drop-cons, Some, None, Result, Ok, Err, slice_get, arith}
+use Rattle.std.proofs.Common.{◌≡◌, ◌∙◌, ℕ, zero, suc, ◌+◌, ◌<◌, List, [], ◌∷◌, ◌++◌, length, get_or, drop, refl, ap, ap₂, sym, add-one, drop-cons, Result, Ok, Err, arith}
 use Rattle.text_core.specs.declared.fault.PassError.{PassError}
 use Rattle.text_core.specs.declared.refusal.SourceError.{SourceError}
-use Rattle.text_core.specs.declared.span.Span.{Span}
-use Rattle.logic_term.specs.Sorted.{sort_at}
-use Rattle.logic_term.specs.Term.{Term, Terms, and_term, part}
+use Rattle.logic_term.specs.Term.{Term, Terms, and_term}
 use Rattle.logic_term.specs.TermView.{terms_of}
 use Rattle.logic_term.specs.Ty.{Ty, Tys, and_ty}
 use Rattle.logic_term.specs.TyView.{tys_of}
@@ -13,23 +11,10 @@ use Rattle.source_trees.specs.Pterm.{Pterm}
 use Rattle.source_trees.specs.PtermView.{pterm_size, terms_of as written_terms, terms_size}
 use Rattle.logic_elab.specs.declared.scope.Symbol.{Symbol}
 use Rattle.logic_elab.specs.declared.sorted.SortedTerm.{SortedTerm}
-use Rattle.logic_elab.specs.Answers.{◌>>=◌, Refuses, unknown_name}
-use Rattle.logic_elab.specs.Elaborated.{SortedTerms, and_part, elaborated_parts, elaborated_under, part_at, part_or, sorted}
+use Rattle.logic_elab.specs.Answers.{◌>>=◌, Refuses}
+use Rattle.logic_elab.specs.Elaborated.{SortedTerms, and_part, elaborated_parts, elaborated_under}
 use Rattle.logic_elab.specs.Scope.{Scope}
 use Rattle.logic_elab.proofs.Stops.{along, refuses_then}
-
--- the sort of a number
-sort_found : (ts : List Ty) (n : ℕ) → sort_at (tys_of ts) n ≡ slice_get ts n
-sort_found [] zero = refl
-sort_found [] (suc n) = refl
-sort_found (t ∷ ts) zero = refl
-sort_found (t ∷ ts) (suc n) = sort_found ts n
-
-pub no_part : (r : Span) (t : Term) (ss : List Ty) (n : ℕ) → slice_get ss n ≡ None → part_at r t (tys_of ss) (Some n) ≡ Err (unknown_name r)
-no_part r t ss n e = ap (part_or r t n) (sort_found ss n ∙ e)
-
-pub one_part : (r : Span) (t : Term) (ss : List Ty) (n m : ℕ) (s : Ty) → m ≡ n → slice_get ss n ≡ Some s → part_at r t (tys_of ss) (Some n) ≡ Ok (sorted s (part m t))
-one_part r t ss n m s q e = ap (part_or r t n) (sort_found ss n ∙ e) ∙ ap (λ k. Ok (sorted s (part k t))) (sym q)
 
 -- these sorts, and then the others; these terms, too
 abbrev pub sorts_onto : List Ty → Tys → Tys

@@ -2,12 +2,13 @@
 use Rattle.std.proofs.Common.{◌≡◌, ◌∙◌, ◌||◌, ◌&&◌, ◌==◌, not, cond, ℕ, Bool, true, false, List, [], ◌∷◌, Option, Some, None, ◌⊎◌, inl, inr, refl, ap, sym, subst, true≢false, arith}
 use Rattle.std.proofs.lemmas.Bool.Decides.{nat_tests}
 use Rattle.text_core.specs.declared.name.Name.{Name}
+use Rattle.logic_term.specs.declared.declaration.AdtDecl.{AdtDecl}
 use Rattle.logic_term.specs.Free.{free, free_in_some}
-use Rattle.logic_term.specs.Sorted.{Sorted, AllSorted, OperatorSort, one_ty, two_tys, with_sort}
+use Rattle.logic_term.specs.Sorted.{Sorted, AllSorted, FieldSort, OperatorSort, one_ty, two_tys, with_sort}
 use Rattle.logic_term.specs.Sorted as sorts
 use Rattle.logic_term.specs.Term.{Term, Terms, Operator, field, no_terms, and_term, var, one, two, modeled, negated, denied, arith as by_op, less, at_most, equal, both, either, implied, Quantifier, bind, if_else}
 use Rattle.logic_term.specs.Theory.{Theory}
-use Rattle.logic_term.specs.Ty.{Ty, Tys, int, bool, math_int, tuple, no_tys, and_ty}
+use Rattle.logic_term.specs.Ty.{Ty, Tys, int, bool, math_int, no_tys, and_ty}
 use Rattle.logic_term.proofs.FreeLaw.{same_test, same_name}
 use Rattle.logic_elab.specs.declared.scope.Symbol.{Symbol}
 use Rattle.logic_elab.specs.Binders.{apart, under_one, meant_under}
@@ -88,7 +89,7 @@ module _ (Θ : Theory) (Δ : sorts.Scope) where
   each_sorted (and_ty s ss) (and_term t ts) h = (s, ss, refl, h.0, each_sorted ss ts h.1)
   each_sorted ss ts h = absurd h
 
-sorts_are_kept : (Θ : Theory) (E : sorts.Scope) (Γ : Scope) → GivesSorts E Γ → (bs : List Symbol) → IsKept (λ s t. Sorted Θ (with_sorts E bs) t s) Γ bs
+sorts_are_kept : (Θ : Theory) (E : sorts.Scope) (Γ : Scope) → GivesSorts Θ E Γ → (bs : List Symbol) → IsKept (λ s t. Sorted Θ (with_sorts E bs) t s) Γ bs
 sorts_are_kept Θ E Γ gives bs =
     let Δ = with_sorts E bs in
     record {
@@ -109,7 +110,7 @@ sorts_are_kept Θ E Γ gives bs =
       implications = λ t u h k. two_sorted Θ Δ implied bool bool t u (refl, refl) h k;
       choices = λ s c t u f h k. choice_sorted Θ Δ s c t u f h k;
       tuples = λ ss ts h. (ss, refl, each_sorted Θ Δ ss ts h);
-      parts = λ ss n s t e h. one_sorted Θ Δ (field n) (tuple ss) s t (tuple ss, refl, e) h;
+      parts = λ r n s t e h. one_sorted Θ Δ (field n) r s t (r, refl, subst (λ (ds : List AdtDecl). FieldSort (record { adts = ds }) r n s) (sym gives.types) e) h;
     }
 
 pub terms_are_sorted : ElaboratedTermsAreSorted
@@ -209,7 +210,7 @@ names_are_kept Γ bs =
       implications = λ t u h k. only_two Q implied t u h k;
       choices = λ s c t u f h k. only_choice Q c t u f h k;
       tuples = λ ss ts h. only_each Q ss ts h;
-      parts = λ ss n s t e h. only_one Q (field n) t h;
+      parts = λ r n s t e h. only_one Q (field n) t h;
     }
 
 pub terms_speak_of_their_scope : ElaboratedTermsSpeakOfTheirScope

@@ -19,12 +19,13 @@ use Rattle.logic_elab.specs.declared.chain.TermOperation.TheVariants as operatio
 use Rattle.logic_elab.specs.Answers.{◌>>=◌}
 use Rattle.logic_elab.specs.Scope.{Scope}
 use Rattle.logic_elab.specs.declared.scope.Symbol.{Symbol}
-use Rattle.logic_elab.specs.Elaborated.{asserted_under, compared, elaborated_under, formula, model_of, number, part_of, sorted}
+use Rattle.logic_elab.specs.Elaborated.{asserted_under, compared, elaborated_under, formula, model_of, number, parted, selected, sorted}
 
 -- whether the term is an operation that has a left operand
 abbrev pub has_left : Pterm → Bool
 has_left (T.unary s View t) = true
 has_left (T.part s t k) = true
+has_left (T.field s t x) = true
 has_left (T.binary s op t u) = true
 has_left t = false
 
@@ -37,6 +38,7 @@ operator connective.Implies = Implies
 abbrev pub written : Span → TermOperation → Pterm
 written s (operation.View t) = T.unary s View t.now
 written s (operation.Part r t k) = T.part r t.now k.now
+written s (operation.Field r t x) = T.field r t.now x
 written s (operation.Calculate op t u) = T.binary s (Calculate op) t.now u.now
 written s (operation.Compare op t u) = T.binary s (Compare op) t.now u.now
 written s (operation.Connect op t u) = T.binary s (operator op) t.now u.now
@@ -44,6 +46,7 @@ written s (operation.Connect op t u) = T.binary s (operator op) t.now u.now
 abbrev pub left_of : TermOperation → Pterm
 left_of (operation.View t) = t.now
 left_of (operation.Part r t k) = t.now
+left_of (operation.Field r t x) = t.now
 left_of (operation.Calculate op t u) = t.now
 left_of (operation.Compare op t u) = t.now
 left_of (operation.Connect op t u) = t.now
@@ -63,7 +66,8 @@ connection connective.Implies = implies_term
 -- what the operation becomes behind its left operand
 abbrev pub behind : Scope → List Symbol → TermOperation → SortedTerm → Result SortedTerm SourceError
 behind Γ bs (operation.View t) a = model_of (span_of t.now) a
-behind Γ bs (operation.Part r t k) a = part_of r k.now a
+behind Γ bs (operation.Part r t k) a = parted Γ.types r k.now a
+behind Γ bs (operation.Field r t x) a = selected Γ.types r x a
 behind Γ bs (operation.Calculate op t u) a = elaborated_under Γ bs u.now >>= calculated op (span_of t.now) (span_of u.now) a
 behind Γ bs (operation.Compare op t u) a = elaborated_under Γ bs u.now >>= compared op (span_of t.now) (span_of u.now) a
 behind Γ bs (operation.Connect op t u) a = do
@@ -80,6 +84,7 @@ climbed Γ bs (o ∷ os) m = climbed Γ bs os m >>= behind Γ bs o
 abbrev pub operation_size : TermOperation → ℕ
 operation_size (operation.View t) = 0
 operation_size (operation.Part r t k) = 0
+operation_size (operation.Field r t x) = 0
 operation_size (operation.Calculate op t u) = suc (pterm_size u.now)
 operation_size (operation.Compare op t u) = suc (pterm_size u.now)
 operation_size (operation.Connect op t u) = suc (pterm_size u.now)

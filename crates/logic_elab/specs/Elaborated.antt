@@ -1,13 +1,14 @@
 -- The terms that the terms of contracts become, with their sorts (Pearlite, Creusot). Literals without suffix and all
--- arithmetic are of the unbounded integers. A term stands in a scope, under what quantifiers around it bind.
-use Rattle.std.specs.Prelude.{ℕ, ℤ, pos, Bool, true, false, List, [], Option, Some, None, Result, Ok, Err, if◌then◌else◌}
+-- arithmetic are of the unbounded integers. A term stands in a scope, under what quantifiers around it bind. Parts and fields are those of types (Rust
+-- Reference, "Tuple indexing expressions", "Field access expressions").
+use Rattle.std.specs.Prelude.{ℕ, ℤ, Bool, true, false, List, [], ◌∷◌, Option, Some, None, Result, Ok, Err, if◌then◌else◌}
 use Rattle.text_core.specs.declared.name.Name.{Name}
 use Rattle.text_core.specs.declared.refusal.SourceError.{SourceError}
 use Rattle.text_core.specs.declared.span.Span.{Span}
 use Rattle.source_kinds.specs.declared.kinds.IntKind.{IntKind}
 use Rattle.source_kinds.specs.Range.{fits}
+use Rattle.logic_term.specs.declared.declaration.AdtDecl.{AdtDecl}
 use Rattle.logic_term.specs.declared.kinds.Ctor.TheVariants.{Tuple}
-use Rattle.logic_term.specs.Sorted.{sort_at}
 use Rattle.logic_term.specs.Term.{Term, Terms, apply, made, no_terms, and_term as and_terms, part as part_term, var, lit, truth as truth_term, model, negative as negative_term, not as not_term, calculate, is_less, is_at_most, is_equal, and as and_term, or as or_term, implies as implies_term, Quantifier, every, some, if_else}
 use Rattle.logic_term.specs.Ty.{Ty, Tys, int, bool, math_int, tuple, adt, no_tys, and_ty}
 use Rattle.source_kinds.specs.declared.kinds.Comparison.{Comparison}
@@ -21,6 +22,7 @@ use Rattle.source_trees.specs.declared.path.Segment.{Segment}
 use Rattle.source_trees.specs.Pterm as T
 use Rattle.source_trees.specs.Pterm.{Pterm}
 use Rattle.source_trees.specs.PtermView.{span_of}
+use Rattle.type_parts.specs.Parts.{field_of, is_boxed, part_if, part_number}
 use Rattle.logic_elab.specs.declared.sorted.SortedTerm.{SortedTerm}
 use Rattle.logic_elab.specs.Answers.{◌>>=◌, unknown_name, mismatch, unbuilt, wanted, pair}
 use Rattle.logic_elab.specs.Binders.{meant_under, inside, symbols_of, bound_all}
@@ -133,32 +135,24 @@ and_part a ps = record { sorts = and_ty a.sort ps.sorts; terms = and_terms a.ter
 abbrev pub tuple_term : SortedTerms → SortedTerm
 tuple_term ps = sorted (tuple ps.sorts) (apply (made Tuple) ps.terms)
 
--- a number with a type at its end is that of no part
-abbrev pub number_by : Option IntKind → ℤ → Option ℕ
-number_by None (pos n) = Some n
-number_by _ _ = None
+-- ---- parts and fields
 
-abbrev pub part_number : Number → Option ℕ
-part_number k = number_by k.suffix k.value
+-- a declared type at lifetimes
+abbrev pub has_lifetimes : Ty → Bool
+has_lifetimes (adt d (r ∷ rs) ts) = true
+has_lifetimes _ = false
 
--- the span is that of the number
-abbrev pub part_or : Span → Term → ℕ → Option Ty → Result SortedTerm SourceError
-part_or r t n None = Err (unknown_name r)
-part_or r t n (Some s) = Ok (sorted s (part_term n t))
-
-abbrev pub part_at : Span → Term → Tys → Option ℕ → Result SortedTerm SourceError
-part_at r t ss None = Err (unknown_name r)
-part_at r t ss (Some n) = part_or r t n (sort_at ss n)
-
--- of a tuple; parts of declared types are not built
-abbrev pub part_of_sort : Ty → Span → Span → Term → Option ℕ → Result SortedTerm SourceError
-part_of_sort (tuple ss) s r t n = part_at r t ss n
-part_of_sort (adt d rs ts) s r t n = Err (unbuilt s)
-part_of_sort _ s r t n = Err (unknown_name r)
+-- the part that is found; so far nothing is looked for behind a box, nor taken of a type with lifetimes. The spans are those of the whole, and of the name or number
+abbrev pub part_by : Span → Span → SortedTerm → Option (ℕ × Ty) → Result SortedTerm SourceError
+part_by s r a None = if is_boxed a.sort then Err (unbuilt s) else Err (unknown_name r)
+part_by s r a (Some p) = if has_lifetimes a.sort then Err (unbuilt s) else Ok (sorted p.1 (part_term p.0 a.term))
 
 -- the span is that of the whole
-unfoldable pub part_of : Span → Number → SortedTerm → Result SortedTerm SourceError
-part_of s k a = part_of_sort a.sort s k.span a.term (part_number k)
+unfoldable pub parted : List AdtDecl → Span → Number → SortedTerm → Result SortedTerm SourceError
+parted ds s k a = part_by s k.span a (part_if ds a.sort (part_number k))
+
+unfoldable pub selected : List AdtDecl → Span → Segment → SortedTerm → Result SortedTerm SourceError
+selected ds s x a = part_by s x.span a (field_of ds x.name a.sort)
 
 -- ---- terms
 
@@ -209,7 +203,10 @@ abbrev mutual
     Ok (tuple_term ps)
   elaborated_under Γ bs (T.part s t k) = do
     a ← elaborated_under Γ bs t
-    part_of s k a
+    parted Γ.types s k a
+  elaborated_under Γ bs (T.field s t x) = do
+    a ← elaborated_under Γ bs t
+    selected Γ.types s x a
   elaborated_under Γ bs t = Err (unbuilt (span_of t))
 
   pub elaborated_parts : Scope → List Symbol → T.Terms → Result SortedTerms SourceError

@@ -19,11 +19,12 @@ IsSpokenOf Γ x = ((y : Name) × (a : Symbol) × (Γ.variable y ≡ Some a) × (
 abbrev pub ElaboratedTermsSpeakOfTheirScope : Type 0
 ElaboratedTermsSpeakOfTheirScope = (Γ : Scope) (t : Pterm) (a : SortedTerm) → elaborated Γ t ≡ Ok a → (x : Name) → free x a.term ≡ true → IsSpokenOf Γ x
 
--- the scope gives variables of these sorts
-pub record GivesSorts (Δ : sorts.Scope) (Γ : Scope) : Type 0 where
+-- the scope gives variables of these sorts, where what it declares is what the theory does
+pub record GivesSorts (Θ : Theory) (Δ : sorts.Scope) (Γ : Scope) : Type 0 where
+  pub types : Θ.adts ≡ Γ.types
   pub variables : (x : Name) (a : Symbol) → Γ.variable x ≡ Some a → Δ a.name ≡ Some a.sort
   pub answer : (a : Symbol) → Γ.answer ≡ Some a → Δ a.name ≡ Some a.sort
 
 -- where the variables have their sorts, the term has its sort
 abbrev pub ElaboratedTermsAreSorted : Type 0
-ElaboratedTermsAreSorted = (Θ : Theory) (Δ : sorts.Scope) (Γ : Scope) → GivesSorts Δ Γ → (t : Pterm) (a : SortedTerm) → elaborated Γ t ≡ Ok a → Sorted Θ Δ a.term a.sort
+ElaboratedTermsAreSorted = (Θ : Theory) (Δ : sorts.Scope) (Γ : Scope) → GivesSorts Θ Δ Γ → (t : Pterm) (a : SortedTerm) → elaborated Γ t ≡ Ok a → Sorted Θ Δ a.term a.sort

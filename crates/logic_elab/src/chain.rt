@@ -10,7 +10,7 @@ ghost use Rattle.logic_elab.specs.declared.scope.Symbol.{Symbol};
 ghost use Rattle.logic_elab.specs.Elaborated.{elaborated_under};
 
 use source_kinds::{ArithOp, Comparison};
-use source_trees::{BinaryTerm, Number, Pterm, PtermNode, UnaryTerm};
+use source_trees::{BinaryTerm, Number, Pterm, PtermNode, Segment, UnaryTerm};
 use std::alloc::Global;
 use text_core::{NoMemory, Span};
 
@@ -29,6 +29,8 @@ pub(crate) enum TermOperation<'a> {
     View(&'a Pterm),
     /// `t.0`, with its span.
     Part(Span, &'a Pterm, &'a Number),
+    /// `t.x`, with its span.
+    Field(Span, &'a Pterm, Segment),
     Calculate(ArithOp, &'a Pterm, &'a Pterm),
     Compare(Comparison, &'a Pterm, &'a Pterm),
     Connect(Connective, &'a Pterm, &'a Pterm),
@@ -48,6 +50,7 @@ fn operation_of(t: &Pterm) -> Option<TermOperation<'_>>
     match &*t.node {
         PtermNode::Unary(UnaryTerm::View, a) => Some(TermOperation::View(a)),
         PtermNode::Part(a, number) => Some(TermOperation::Part(t.span, a, number)),
+        PtermNode::Field(a, name) => Some(TermOperation::Field(t.span, a, *name)),
         PtermNode::Binary(op, a, b) => Some(binary_of(*op, a, b)),
         _ => None,
     }
@@ -71,6 +74,7 @@ fn left_of<'a>(operation: &TermOperation<'a>) -> &'a Pterm
     match *operation {
         TermOperation::View(a) => a,
         TermOperation::Part(_, a, _) => a,
+        TermOperation::Field(_, a, _) => a,
         TermOperation::Calculate(_, a, _) => a,
         TermOperation::Compare(_, a, _) => a,
         TermOperation::Connect(_, a, _) => a,

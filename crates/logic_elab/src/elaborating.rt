@@ -13,7 +13,7 @@ ghost use Rattle.logic_elab.specs.Parts.{parts_as};
 
 use crate::binders::{bound_all, meant_under, symbols_inside, symbols_of};
 use crate::chain::{Connective, TermDescent, TermOperation, descend};
-use crate::parts::{SortedParts, part_of, tuple_term};
+use crate::parts::{SortedParts, parted, selected, tuple_term};
 use crate::refusal::{mismatch, unbuilt, unknown_name};
 use crate::scope::{Symbol, TermScope};
 use crate::sorted::{SortedTerm, of_sort};
@@ -413,12 +413,13 @@ fn elaborate_form<S: TermScope>(
             let parts = elaborate_parts(alloc, scope, bound, parts)?;
             Ok(tuple_term(alloc, parts)?)
         }
-        PtermNode::Unary(UnaryTerm::View, _) | PtermNode::Binary(_, _, _) | PtermNode::Part(_, _) =>
-            unreachable!(),
+        PtermNode::Unary(UnaryTerm::View, _)
+        | PtermNode::Binary(_, _, _)
+        | PtermNode::Part(_, _)
+        | PtermNode::Field(_, _) => unreachable!(),
         PtermNode::Unary(UnaryTerm::Current | UnaryTerm::Final, _)
         | PtermNode::Receiver
         | PtermNode::MutRef(_, _)
-        | PtermNode::Field(_, _)
         | PtermNode::Method(_, _, _)
         | PtermNode::Call(_, _)
         | PtermNode::Literal(_, _)
@@ -495,7 +496,8 @@ fn elaborate_behind<S: TermScope>(
 {
     match operation {
         TermOperation::View(t) => model_of(alloc, span_of(t), left),
-        TermOperation::Part(span, _, number) => part_of(alloc, span, number, left),
+        TermOperation::Part(span, _, number) => parted(alloc, scope.types(), span, number, left),
+        TermOperation::Field(span, _, name) => selected(alloc, scope.types(), span, name, left),
         TermOperation::Calculate(op, t, u) => {
             let right = elaborate_under(alloc, scope, bound, u)?;
             calculated(alloc, op, (span_of(t), span_of(u)), left, right)

@@ -1,16 +1,16 @@
-//! Tuples in terms, and their parts.
-ghost use Rattle.std.specs.Prelude.{◌≡◌, ◌<◌, ◌^◌, ◌++◌, ◌∷◌, [], None, Some, IfOk, MatchOption, slice_get};
-ghost use Rattle.logic_term.specs.TyView.{tys_of};
+//! Tuples in terms, and parts and fields.
+ghost use Rattle.std.specs.Prelude.{◌≡◌, ◌++◌, ◌∷◌, [], IfOk};
 ghost use Rattle.logic_elab.specs.Answers.{Answers};
-ghost use Rattle.logic_elab.specs.Elaborated.{part_at, part_number, part_of, tuple_term};
+ghost use Rattle.logic_elab.specs.Elaborated.{has_lifetimes, part_by, parted, selected, tuple_term};
 ghost use Rattle.logic_elab.specs.Parts.{parts_as};
 
 use crate::refusal::{unbuilt, unknown_name};
 use crate::sorted::{SortedTerm, of_sort};
-use logic_term::{CompoundTy, Ctor, Term, Ty, TyNode};
-use source_trees::Number;
+use logic_term::{AdtDecl, CompoundTy, Ctor, Term, Ty, TyNode};
+use source_trees::{Number, Segment};
 use std::alloc::Global;
-use text_core::{Boxed, NoMemory, PassError, Span};
+use text_core::{NoMemory, PassError, Span};
+use type_parts::{field_of, is_boxed, part_of};
 
 /// The sorts and the terms of parts, one of each for a part.
 #[derive(Drop)]
@@ -53,79 +53,72 @@ pub(crate) fn tuple_term(alloc: Global, parts: SortedParts) -> Result<SortedTerm
     of_sort(alloc, Ty { node }, term)
 }
 
-/// The number; none where it has a type at its end. Want of memory where it would pass 63 bits.
-fn number_in(number: &Number) -> Result<Option<u64>, NoMemory>
-    ensures number { IfOk result (λ o. o ≡ part_number number.now) }
-    ensures few { IfOk result (λ o. MatchOption o (Unit {0}) (λ n. n < 2 ^ 63)) }
+/// Whether it is a declared type at lifetimes.
+fn has_lifetimes(sort: &Ty) -> bool
+    ensures { result ≡ has_lifetimes sort.now }
 {
-    if number.suffix.is_some() || number.value < 0 {
-        return Ok(None);
-    }
-    match u64::try_from(number.value) {
-        Ok(value) if value < 1 << 63 => Ok(Some(value)),
-        _ => Err(NoMemory),
+    match &sort.node {
+        TyNode::Compound(parts) => match &**parts {
+            CompoundTy::Adt(_, regions, _) => !regions.is_empty(),
+            CompoundTy::Unary(_, _) | CompoundTy::Closure(_, _, _, _) => false,
+        },
+        TyNode::Tuple(_) | TyNode::Int(_) | TyNode::Bool | TyNode::MathInt | TyNode::Param(_) =>
+            false,
     }
 }
 
-/// The number and its sort, where it is one of these.
-fn sort_among(alloc: Global, sorts: &[Ty], number: u64) -> Result<Option<(u32, Ty)>, NoMemory>
-    ensures { IfOk result (λ o. MatchOption o (slice_get sorts.now number ≡ None) (λ p. (p.0 ≡ number) × (slice_get sorts.now number ≡ Some p.1))) }
-{
-    match sorts.get(number as usize) {
-        Some(sort) => {
-            let place = u32::try_from(number).map_err(|_| NoMemory)?;
-            Ok(Some((place, sort.copy(alloc)?)))
-        }
-        None => Ok(None),
-    }
-}
-
-/// The part of this number of a term of a tuple of these sorts. E05 at the span, that of the number, where there is none.
-#[tactic(auto, using(crate::proofs::PartByPart::no_part, crate::proofs::PartByPart::one_part))]
-fn part_at(
+/// The part that was found; the spans are those of the whole, and of the name or number. E05 there where there is none, and E20 at the whole where it is not
+/// built.
+fn part_by(
     alloc: Global,
     span: Span,
-    term: Boxed<Term>,
-    sorts: &[Ty],
-    number: Option<u64>,
+    at: Span,
+    t: SortedTerm,
+    found: Option<(u32, Ty)>,
 ) -> Result<SortedTerm, PassError>
-    requires few { MatchOption number (Unit {0}) (λ n. n < 2 ^ 63) }
-    ensures { Answers result (part_at span term (tys_of sorts.now) number) }
+    ensures { Answers result (part_by span at t found) }
 {
-    let Some(number) = number else {
-        return Err(unknown_name(span));
+    let SortedTerm { sort, term } = t;
+    let Some((number, ty)) = found else {
+        return Err(if is_boxed(&sort) {
+            unbuilt(span)
+        } else {
+            unknown_name(at)
+        });
     };
-    match sort_among(alloc, sorts, number)? {
-        Some((place, sort)) => {
-            let part = Term::field(alloc, term.into_inner(), place)?;
-            Ok(of_sort(alloc, sort, part)?)
-        }
-        None => Err(unknown_name(span)),
+    if has_lifetimes(&sort) {
+        return Err(unbuilt(span));
     }
+    let part = Term::field(alloc, term.into_inner(), number)?;
+    Ok(of_sort(alloc, ty, part)?)
 }
 
-/// `t.0`; the span is that of the whole. E05 at a number that is that of no part, and E20 at a part of a declared type.
-#[tactic(auto, unfolding(crate::specs::Elaborated::part_of))]
-pub(crate) fn part_of(
+/// `t.0`; the span is that of the whole.
+#[tactic(auto, unfolding(crate::specs::Elaborated::parted))]
+pub(crate) fn parted(
     alloc: Global,
+    types: &[AdtDecl],
     span: Span,
     number: &Number,
     t: SortedTerm,
 ) -> Result<SortedTerm, PassError>
-    ensures { Answers result (part_of span number.now t) }
+    ensures { Answers result (parted types.now span number.now t) }
 {
-    let place = number_in(number)?;
-    let SortedTerm { sort, term } = t;
-    match &sort.node {
-        TyNode::Tuple(sorts) => part_at(alloc, number.span, term, sorts.as_slice(), place),
-        TyNode::Compound(parts) => match &**parts {
-            CompoundTy::Adt(_, _, _) => Err(unbuilt(span)),
-            CompoundTy::Unary(_, _) | CompoundTy::Closure(_, _, _, _) => {
-                Err(unknown_name(number.span))
-            }
-        },
-        TyNode::Int(_) | TyNode::Bool | TyNode::MathInt | TyNode::Param(_) => {
-            Err(unknown_name(number.span))
-        }
-    }
+    let found = part_of(alloc, types, &t.sort, number)?;
+    part_by(alloc, span, number.span, t, found)
+}
+
+/// `t.x`; the span is that of the whole.
+#[tactic(auto, unfolding(crate::specs::Elaborated::selected))]
+pub(crate) fn selected(
+    alloc: Global,
+    types: &[AdtDecl],
+    span: Span,
+    name: Segment,
+    t: SortedTerm,
+) -> Result<SortedTerm, PassError>
+    ensures { Answers result (selected types.now span name t) }
+{
+    let found = field_of(alloc, types, &t.sort, name.name)?;
+    part_by(alloc, span, name.span, t, found)
 }

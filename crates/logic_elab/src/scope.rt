@@ -1,7 +1,7 @@
 ghost use Rattle.std.specs.Prelude.{◌≡◌, IfOk};
 ghost use Rattle.logic_elab.specs.Scope.{Scope};
 
-use logic_term::Sort;
+use logic_term::{AdtDecl, Sort};
 use std::alloc::Global;
 use text_core::{Name, NoMemory};
 
@@ -25,9 +25,9 @@ impl Symbol {
     }
 }
 
-/// What the names of a term mean where it stands.
+/// What the names of a term mean where it stands, and the types that are declared there.
 pub trait TermScope {
-    // What each name means, and the word for the answer of a function.
+    // What each name means, and the word for the answer of a function, and the declared types.
     ghost scope: { Self → Scope };
 
     /// The variable that the name means; `None` exactly where it means none.
@@ -37,4 +37,8 @@ pub trait TermScope {
     /// What the word `result` means; `None` exactly where it is a name as each other.
     fn answer(&self, alloc: Global) -> Result<Option<Symbol>, NoMemory>
         ensures { IfOk result (λ o. o ≡ (scope self.now).answer) };
+
+    /// The declared types, by their numbers.
+    fn types(&self) -> &[AdtDecl]
+        ensures { result.now ≡ (scope self.now).types };
 }

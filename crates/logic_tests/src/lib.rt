@@ -6,6 +6,8 @@ mod certificates;
 #[cfg(test)]
 mod depth;
 #[cfg(test)]
+mod field_rows;
+#[cfg(test)]
 mod goals;
 #[cfg(test)]
 mod proof_files;

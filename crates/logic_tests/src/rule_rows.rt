@@ -13,7 +13,7 @@ use std::test::Fail;
 use text_core::Names;
 
 /// The file with these lines as the steps of its one proof.
-fn file_of(alloc: Global, steps: &str) -> Result<ProofFile, Fail> {
+pub(crate) fn file_of(alloc: Global, steps: &str) -> Result<ProofFile, Fail> {
     let text = format!(in alloc; "creusot-proofs 1\nproof 1 next\n{steps}end\n")?;
     if text.len() > 1000 {
         return Err("long".into());
@@ -23,7 +23,7 @@ fn file_of(alloc: Global, steps: &str) -> Result<ProofFile, Fail> {
 }
 
 /// Whether no sequent is left when the steps are done.
-fn closes(
+pub(crate) fn closes(
     alloc: Global,
     obligation: &Obligation,
     tables: &Tables,

@@ -61,8 +61,8 @@ module _ (w : Setting) (S : Structure) (is : IsStructureOf w S) where
   gives_sound s q step ps (by_rewriting {r = r} e) cited h = rewrite_sound S s q ps h r e
   gives_sound s q step ps (by_deciding {l = l} {to = to} e) cited h = decide_sound S s q ps h l to e
   gives_sound s q step ps (by_term {r = r} {t = t} e) cited h = term_sound S s q ps h w.tables.adts (is.0) r t e
-  gives_sound s q step ps (by_division {t = t} {u = u} e) cited h = division_sound S s q ps h t u e
-  gives_sound s q step ps (by_instance {l = l} {ts = ts} e) cited h = instance_sound S s q ps h l ts e
+  gives_sound s q step ps (by_division {t = t} {u = u} e) cited h = division_sound S s q ps h w.tables.adts (is.0) t u e
+  gives_sound s q step ps (by_instance {l = l} {ts = ts} e) cited h = instance_sound S w.tables.adts (is.0) s q ps h l ts e
   gives_sound s q step ps (by_unpacking {l = l} {x = x} new e) cited h = unpack_sound S s q ps h l x new e
   gives_sound s q step ps (by_variants {t = t} {names = names} new e) cited h = variants_sound S w.tables.adts (is.0) s q t names ps new e h
   gives_sound s q step ps (by_induction {x = x} {names = names} new free e) cited h = induction_sound S w.tables.adts (is.0) s q x names ps new free e h

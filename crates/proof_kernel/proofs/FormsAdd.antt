@@ -71,10 +71,10 @@ unpack_there s q ps l x e = at (hypothesis l q.hyps) e
     at None f = absurd (cc)
     at (Some t) f = (t, refl)
 
-pub instance_there : (s : ℕ) (q : Sequent) (ps : List Sequent) (l : Label2) (ts : List Pterm) → instance_rule s q l ts ≡ Some ps → IsLabelOf q l
-instance_there s q ps l ts e = at (hypothesis l q.hyps) e
+pub instance_there : (adts : List AdtDecl) (s : ℕ) (q : Sequent) (ps : List Sequent) (l : Label2) (ts : List Pterm) → instance_rule adts s q l ts ≡ Some ps → IsLabelOf q l
+instance_there adts s q ps l ts e = at (hypothesis l q.hyps) e
   where
-    at : (o : Option Term) → assuming_all s q (instance_if q ts o) ≡ Some ps → (t : Term) × (o ≡ Some t)
+    at : (o : Option Term) → assuming_all s q (instance_if adts q ts o) ≡ Some ps → (t : Term) × (o ≡ Some t)
     at None f = absurd (cc)
     at (Some t) f = (t, refl)
 
@@ -217,10 +217,10 @@ module _ (P : Label2 → Type 0) (N : Name → Type 0) (s : ℕ) (own : (k : ℕ
   by_term_if_has adts r (Some a) e = by_term_has adts r a e
 
   pub term_has : (adts : List AdtDecl) (r : TermRule) (t : Pterm) → term_rule adts r s q t ≡ Some ps → Each (Has P N) ps
-  term_has adts r t e = by_term_if_has adts r (term_at q t) e
+  term_has adts r t e = by_term_if_has adts r (term_at adts q t) e
 
-  pub division_has : (t u : Pterm) → division_rule s q t u ≡ Some ps → Each (Has P N) ps
-  division_has t u e = assuming_all_has (division_of (number_if (term_at q t)) (number_if (term_at q u))) e
+  pub division_has : (adts : List AdtDecl) (t u : Pterm) → division_rule adts s q t u ≡ Some ps → Each (Has P N) ps
+  division_has adts t u e = assuming_all_has (division_of (number_if (term_at adts q t)) (number_if (term_at adts q u))) e
 
-  pub instance_has : (l : Label2) (ts : List Pterm) → instance_rule s q l ts ≡ Some ps → Each (Has P N) ps
-  instance_has l ts e = assuming_all_has (instance_if q ts (hypothesis l q.hyps)) e
+  pub instance_has : (adts : List AdtDecl) (l : Label2) (ts : List Pterm) → instance_rule adts s q l ts ≡ Some ps → Each (Has P N) ps
+  instance_has adts l ts e = assuming_all_has (instance_if adts q ts (hypothesis l q.hyps)) e

@@ -3,6 +3,7 @@ use Rattle.std.proofs.Common.{◌≡◌, ℕ, ◌==◌, Bool, true, false, cond,
 use Rattle.std.specs.Option.{option_map}
 use Rattle.text_core.specs.declared.name.Name.{Name}
 use Rattle.source_trees.specs.Pterm.{Pterm}
+use Rattle.logic_term.specs.declared.declaration.AdtDecl.{AdtDecl}
 use Rattle.logic_term.specs.declared.kinds.Label2.{Label2}
 use Rattle.logic_term.specs.declared.subst.Replacement.{Replacement}
 use Rattle.logic_term.specs.Meaning.{Structure, Env, with_value, Means, Holds}
@@ -51,7 +52,7 @@ put_found (Some a) (bind every x s t) r e =
     }
 put_found o t r e = absurd (cc)
 
-module _ (S : Structure) (q : Sequent) (ρ : Env) (z : InSorts S q.vars ρ) where
+module _ (S : Structure) (adts : List AdtDecl) (theory : S.theory ≡ record { adts = adts }) (q : Sequent) (ρ : Env) (z : InSorts S q.vars ρ) where
   -- the terms have, at ρ, the values that τ gives the names for which they stand
   abbrev StandFor : List Replacement → Env → Type 0
   StandFor σ τ = (x : Name) → Exactly (Means S (look σ x) ρ) (τ x)
@@ -63,32 +64,32 @@ module _ (S : Structure) (q : Sequent) (ρ : Env) (z : InSorts S q.vars ρ) wher
       by true = h
       by false = k y
 
-  instance_holds : (ps : List Pterm) (σ : List Replacement) (τ : Env) (t u : Term) → instance_of q σ ps t ≡ Some u → StandFor σ τ → Holds S t τ → Holds S u ρ
+  instance_holds : (ps : List Pterm) (σ : List Replacement) (τ : Env) (t u : Term) → instance_of adts q σ ps t ≡ Some u → StandFor σ τ → Holds S t τ → Holds S u ρ
   instance_holds [] σ τ t u e stand h = subst (λ (v : Term). Holds S v ρ) (same_some (with_terms σ t) u e) ((yes_alike _ _ (with_terms_means S t ρ τ σ (λ x f. stand x))).1 h)
-  instance_holds (p ∷ ps) σ τ t u e stand h = by (put_first (term_at q p) t) refl e (λ r f g k. instance_holds ps (r.0 ∷ σ) (with_value τ r.0.name f) r.1 u g k)
+  instance_holds (p ∷ ps) σ τ t u e stand h = by (put_first (term_at adts q p) t) refl e (λ r f g k. instance_holds ps (r.0 ∷ σ) (with_value τ r.0.name f) r.1 u g k)
     where
-      by : (o : Option (Replacement × Term)) → put_first (term_at q p) t ≡ o → then_with (λ r. instance_of q (r.0 ∷ σ) ps r.1) o ≡ Some u →
-          ((r : Replacement × Term) (w : Value) → instance_of q (r.0 ∷ σ) ps r.1 ≡ Some u → StandFor (r.0 ∷ σ) (with_value τ r.0.name w) → Holds S r.1 (with_value τ r.0.name w) → Holds S u ρ) → Holds S u ρ
+      by : (o : Option (Replacement × Term)) → put_first (term_at adts q p) t ≡ o → then_with (λ r. instance_of adts q (r.0 ∷ σ) ps r.1) o ≡ Some u →
+          ((r : Replacement × Term) (w : Value) → instance_of adts q (r.0 ∷ σ) ps r.1 ≡ Some u → StandFor (r.0 ∷ σ) (with_value τ r.0.name w) → Holds S r.1 (with_value τ r.0.name w) → Holds S u ρ) → Holds S u ρ
       by None is g others = absurd (cc)
       by (Some r) is g others =
-          let put = put_found (term_at q p) t r is in
+          let put = put_found (term_at adts q p) t r is in
           let whole : Holds S (forall r.0.name put.sort r.1) τ = subst (λ (v : Term). Holds S v τ) put.was h in
           λ n. has_value S put.term.term ρ (λ (w : (v : Value) × Means S put.term.term ρ v).
           let sorted : HasSort (declared S.theory) w.0 (sort_instance S.types put.sort) =
-          subst (λ (s : Ty). HasSort (declared S.theory) w.0 (sort_instance S.types s)) put.fits (value_sorted S q ρ z p put.term put.there w.0 w.1) in
+          subst (λ (s : Ty). HasSort (declared S.theory) w.0 (sort_instance S.types s)) put.fits (value_sorted S adts theory q ρ z p put.term put.there w.0 w.1) in
           let value : Exactly (Means S r.0.by ρ) w.0 = subst (λ (v : Term). Exactly (Means S v ρ) w.0) (sym put.by) (exact S ρ put.term.term (integer_of w.0) (w.0, w.1, refl)) in
           others r w.0 g (one_more r.0 σ τ w.0 value stand) ((holds_forall S r.0.name put.sort r.1 τ).0 whole w.0 sorted) n)
 
-  whole_holds : (ps : List Pterm) (t u : Term) → instance q ps t ≡ Some u → Holds S t ρ → Holds S u ρ
+  whole_holds : (ps : List Pterm) (t u : Term) → instance adts q ps t ≡ Some u → Holds S t ρ → Holds S u ρ
   whole_holds [] t u e h = absurd (cc)
   whole_holds (p ∷ ps) t u e h = instance_holds (p ∷ ps) [] ρ t u e (λ x. alike_same _) h
 
-module _ (S : Structure) (s : ℕ) (q : Sequent) (ps : List Sequent) (h : AllTrueAt S ps) where
-  pub instance_sound : (l : Label2) (ts : List Pterm) → instance_rule s q l ts ≡ Some ps → IsTrueAt S q
-  instance_sound l ts e = assuming_sound S s q ps h (instance_if q ts (hypothesis l q.hyps)) e (λ us f ρ z k. by us ρ z k (hypothesis l q.hyps) refl f)
+module _ (S : Structure) (adts : List AdtDecl) (theory : S.theory ≡ record { adts = adts }) (s : ℕ) (q : Sequent) (ps : List Sequent) (h : AllTrueAt S ps) where
+  pub instance_sound : (l : Label2) (ts : List Pterm) → instance_rule adts s q l ts ≡ Some ps → IsTrueAt S q
+  instance_sound l ts e = assuming_sound S s q ps h (instance_if adts q ts (hypothesis l q.hyps)) e (λ us f ρ z k. by us ρ z k (hypothesis l q.hyps) refl f)
     where
-      by : (us : List Term) (ρ : Env) → InSorts S q.vars ρ → AllHold S q.hyps ρ → (o : Option Term) → hypothesis l q.hyps ≡ o → instance_if q ts o ≡ Some us → AllTrue S us ρ
+      by : (us : List Term) (ρ : Env) → InSorts S q.vars ρ → AllHold S q.hyps ρ → (o : Option Term) → hypothesis l q.hyps ≡ o → instance_if adts q ts o ≡ Some us → AllTrue S us ρ
       by us ρ z k None is f = absurd (cc)
       by us ρ z k (Some t) is f =
-          let m = mapped (λ (u : Term). u ∷ []) (instance q ts t) us f in
-          subst (λ (vs : List Term). AllTrue S vs ρ) m.2 (whole_holds S q ρ z ts t m.0 m.1 (held S l q.hyps t ρ is k), tt)
+          let m = mapped (λ (u : Term). u ∷ []) (instance adts q ts t) us f in
+          subst (λ (vs : List Term). AllTrue S vs ρ) m.2 (whole_holds S adts theory q ρ z ts t m.0 m.1 (held S l q.hyps t ρ is k), tt)

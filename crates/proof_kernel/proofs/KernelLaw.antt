@@ -157,17 +157,17 @@ module _ (w : Setting) (s : ℕ) (q : Sequent) (o : Option (Vec Sequent)) where
   pub no_term : (r : TermRule) (t : Pterm) → o ≡ None → Finds (term_rule w.tables.adts r s q t) o → (ps : List Sequent) → Gives w s q (OnTerm r t) ps → ⊥
   no_term r t e f ps g = none_is (term_rule w.tables.adts r s q t) o ps e f (given w s q (OnTerm r t) ps g)
 
-  pub division_given : (t u : Pterm) (v : Vec Sequent) → o ≡ Some v → Finds (division_rule s q t u) o → Gives w s q (Divide t u) v.items
-  division_given t u v e f = by_division (found_is (division_rule s q t u) o v e f)
+  pub division_given : (t u : Pterm) (v : Vec Sequent) → o ≡ Some v → Finds (division_rule w.tables.adts s q t u) o → Gives w s q (Divide t u) v.items
+  division_given t u v e f = by_division (found_is (division_rule w.tables.adts s q t u) o v e f)
 
-  pub no_division : (t u : Pterm) → o ≡ None → Finds (division_rule s q t u) o → (ps : List Sequent) → Gives w s q (Divide t u) ps → ⊥
-  no_division t u e f ps g = none_is (division_rule s q t u) o ps e f (given w s q (Divide t u) ps g)
+  pub no_division : (t u : Pterm) → o ≡ None → Finds (division_rule w.tables.adts s q t u) o → (ps : List Sequent) → Gives w s q (Divide t u) ps → ⊥
+  no_division t u e f ps g = none_is (division_rule w.tables.adts s q t u) o ps e f (given w s q (Divide t u) ps g)
 
-  pub instance_given : (l : Label2) (ts : List Pterm) (v : Vec Sequent) → o ≡ Some v → Finds (instance_rule s q l ts) o → Gives w s q (Instantiate l ts) v.items
-  instance_given l ts v e f = by_instance (found_is (instance_rule s q l ts) o v e f)
+  pub instance_given : (l : Label2) (ts : List Pterm) (v : Vec Sequent) → o ≡ Some v → Finds (instance_rule w.tables.adts s q l ts) o → Gives w s q (Instantiate l ts) v.items
+  instance_given l ts v e f = by_instance (found_is (instance_rule w.tables.adts s q l ts) o v e f)
 
-  pub no_instance : (l : Label2) (ts : List Pterm) → o ≡ None → Finds (instance_rule s q l ts) o → (ps : List Sequent) → Gives w s q (Instantiate l ts) ps → ⊥
-  no_instance l ts e f ps g = none_is (instance_rule s q l ts) o ps e f (given w s q (Instantiate l ts) ps g)
+  pub no_instance : (l : Label2) (ts : List Pterm) → o ≡ None → Finds (instance_rule w.tables.adts s q l ts) o → (ps : List Sequent) → Gives w s q (Instantiate l ts) ps → ⊥
+  no_instance l ts e f ps g = none_is (instance_rule w.tables.adts s q l ts) o ps e f (given w s q (Instantiate l ts) ps g)
 
   pub unpack_given : (l : Label2) (x : Name) (v : Vec Sequent) → IsNew x q → o ≡ Some v → Finds (unpack_rule s q l x) o → Gives w s q (Unpack l x) v.items
   unpack_given l x v new e f = by_unpacking new (found_is (unpack_rule s q l x) o v e f)

@@ -13,7 +13,7 @@ use Rattle.logic_term.specs.Sort.{HasSort, instance}
 use Rattle.logic_term.specs.Sorted as sorts
 use Rattle.logic_term.specs.Free.{free, free_in_some}
 use Rattle.logic_term.specs.Term.{some, Term, Terms, var, lit, truth, apply, bind, no_terms, and_term, model}
-use Rattle.logic_term.specs.Theory.{Theory, nothing_declared, declared}
+use Rattle.logic_term.specs.Theory.{Theory, declared}
 use Rattle.logic_term.specs.Ty.{Ty, Tys, int, bool, math_int}
 use Rattle.logic_term.specs.Value.{Value, Number, integer_of}
 use Rattle.logic_term.proofs.Alike.{alike_same}
@@ -58,8 +58,9 @@ symbols_sorted : (x : Name) (o : Option Ty) (a : Symbol) → option_map (symbol 
 symbols_sorted x None a p = absurd (cc)
 symbols_sorted x (Some s) a p = let e : symbol x s ≡ a = same_some (symbol x s) a p in (ap (λ (b : Symbol). b.name) e, ap (λ (b : Symbol). Some b.sort) e)
 
-gives_sorts : (vars : List (Name × Ty)) → GivesSorts (scope_of_sorts vars) (scope_of vars)
-gives_sorts vars = record {
+gives_sorts : (Θ : Theory) (adts : List AdtDecl) (vars : List (Name × Ty)) → Θ.adts ≡ adts → GivesSorts Θ (scope_of_sorts vars) (scope_of adts vars)
+gives_sorts Θ adts vars is = record {
+  types = is;
   variables = λ x a p. let e = symbols_sorted x (sort_of x vars) a p in subst (λ y. sort_of y vars ≡ Some a.sort) e.0 e.1;
   answer = λ a p. absurd (cc);
 }
@@ -91,22 +92,26 @@ mutual
       or_cases (free x t) (free_in_some x ts) f (λ e. sorted_free Θ Γ t h.0 x h.3 e n) (λ e. all_sorted_free Θ Γ ts h.1 x h.4 e n)
 
 -- the free names of a term at a sequent are its variables
-pub term_names_there : (q : Sequent) (t : Pterm) (a : SortedTerm) → term_at q t ≡ Some a → (x : Name) → free x a.term ≡ true → (r : Ty) × (sort_of x q.vars ≡ Some r)
-term_names_there q t a p x f = at (sort_of x q.vars) refl
+pub term_names_there : (adts : List AdtDecl) (q : Sequent) (t : Pterm) (a : SortedTerm) → term_at adts q t ≡ Some a → (x : Name) → free x a.term ≡ true → (r : Ty) × (sort_of x q.vars ≡ Some r)
+term_names_there adts q t a p x f = at (sort_of x q.vars) refl
   where
-    is : sorts.Sorted nothing_declared (scope_of_sorts q.vars) a.term a.sort
-    is = terms_are_sorted nothing_declared (scope_of_sorts q.vars) (scope_of q.vars) (gives_sorts q.vars) t a (elaborates _ a p)
+    Θ : Theory
+    Θ = record { adts = adts }
+
+    is : sorts.Sorted Θ (scope_of_sorts q.vars) a.term a.sort
+    is = terms_are_sorted Θ (scope_of_sorts q.vars) (scope_of adts q.vars) (gives_sorts Θ adts q.vars refl) t a (elaborates _ a p)
 
     at : (o : Option Ty) → sort_of x q.vars ≡ o → (r : Ty) × (sort_of x q.vars ≡ Some r)
-    at None e = absurd (sorted_free nothing_declared (scope_of_sorts q.vars) a.term a.sort x is f e)
+    at None e = absurd (sorted_free Θ (scope_of_sorts q.vars) a.term a.sort x is f e)
     at (Some r) e = (r, e)
 
-module _ (S : Structure) (q : Sequent) (ρ : Env) (z : InSorts S q.vars ρ) where
+module _ (S : Structure) (adts : List AdtDecl) (is : S.theory ≡ record { adts = adts }) (q : Sequent) (ρ : Env) (z : InSorts S q.vars ρ) where
   -- its value has its sort
-  pub value_sorted : (t : Pterm) (a : SortedTerm) → term_at q t ≡ Some a → (v : Value) → Means S a.term ρ v → HasSort (declared S.theory) v (instance S.types a.sort)
+  pub value_sorted : (t : Pterm) (a : SortedTerm) → term_at adts q t ≡ Some a → (v : Value) → Means S a.term ρ v → HasSort (declared S.theory) v (instance S.types a.sort)
   value_sorted t a p v m =
-      let is = terms_are_sorted S.theory (scope_of_sorts q.vars) (scope_of q.vars) (gives_sorts q.vars) t a (elaborates _ a p) in
-      sort_sound S.theory S.types a.term (scope_of_sorts q.vars) a.sort ρ is (λ x s e. sorted S x q.vars s ρ e z) v m
+      let gives = gives_sorts S.theory adts q.vars (ap (λ (Θ : Theory). Θ.adts) is) in
+      let here = terms_are_sorted S.theory (scope_of_sorts q.vars) (scope_of adts q.vars) gives t a (elaborates _ a p) in
+      sort_sound S.theory S.types a.term (scope_of_sorts q.vars) a.sort ρ here (λ x s e. sorted S x q.vars s ρ e z) v m
 
 -- ---- the bounds of a machine integer
 
@@ -157,24 +162,24 @@ module _ (S : Structure) (s : ℕ) (q : Sequent) (ps : List Sequent) (h : AllTru
       (at_term_of S x a.term t ρ w.0 (exact S ρ a.term (integer_of w.0) (w.0, w.1, refl)) (subst (λ (v : Term). Holds S v ρ) (sym c.1) k))))
   witnessed_holds a g u ρ e is k = absurd (cc)
 
-  witness_sound : (t : Pterm) (a : SortedTerm) → term_at q t ≡ Some a → (o : Option Term) → witnessed a q.goal ≡ o → to_show q o ≡ Some ps → IsTrueAt S q
-  witness_sound t a p None c e = absurd (cc)
-  witness_sound t a p (Some u) c e = λ ρ z k. witnessed_holds a q.goal u ρ c (value_sorted S q ρ z t a p) ((these_true S _ ps e h).0 ρ z k)
-
   module _ (adts : List AdtDecl) (is : S.theory ≡ record { adts = adts }) where
-    by_term_sound : (r : TermRule) (t : Pterm) (a : SortedTerm) → term_at q t ≡ Some a → by_term adts r s q a ≡ Some ps → IsTrueAt S q
+    witness_sound : (t : Pterm) (a : SortedTerm) → term_at adts q t ≡ Some a → (o : Option Term) → witnessed a q.goal ≡ o → to_show q o ≡ Some ps → IsTrueAt S q
+    witness_sound t a p None c e = absurd (cc)
+    witness_sound t a p (Some u) c e = λ ρ z k. witnessed_holds a q.goal u ρ c (value_sorted S adts is q ρ z t a p) ((these_true S _ ps e h).0 ρ z k)
+
+    by_term_sound : (r : TermRule) (t : Pterm) (a : SortedTerm) → term_at adts q t ≡ Some a → by_term adts r s q a ≡ Some ps → IsTrueAt S q
     by_term_sound Cut t a p e = cut_sound (formula a) e
     by_term_sound On t a p e = on_sound (formula a) e
-    by_term_sound Range t a p e = assuming_sound (bounds_at a.sort a.term) e (λ ts f ρ z k. bounds_at_hold S ρ a.sort a.term ts f (value_sorted S q ρ z t a p))
+    by_term_sound Range t a p e = assuming_sound (bounds_at a.sort a.term) e (λ ts f ρ z k. bounds_at_hold S ρ a.sort a.term ts f (value_sorted S adts is q ρ z t a p))
     by_term_sound Witness t a p e = witness_sound t a p (witnessed a q.goal) refl e
-    by_term_sound Eta t a p e = assuming_sound (eta_at adts a) e (λ ts f ρ z k. eta_holds S adts is ρ a ts f (value_sorted S q ρ z t a p))
+    by_term_sound Eta t a p e = assuming_sound (eta_at adts a) e (λ ts f ρ z k. eta_holds S adts is ρ a ts f (value_sorted S adts is q ρ z t a p))
 
-    by_term_if_sound : (r : TermRule) (t : Pterm) (o : Option SortedTerm) → term_at q t ≡ o → by_term_if adts r s q o ≡ Some ps → IsTrueAt S q
+    by_term_if_sound : (r : TermRule) (t : Pterm) (o : Option SortedTerm) → term_at adts q t ≡ o → by_term_if adts r s q o ≡ Some ps → IsTrueAt S q
     by_term_if_sound r t None p e = absurd (cc)
     by_term_if_sound r t (Some a) p e = by_term_sound r t a p e
 
     pub term_sound : (r : TermRule) (t : Pterm) → term_rule adts r s q t ≡ Some ps → IsTrueAt S q
-    term_sound r t e = by_term_if_sound r t (term_at q t) refl e
+    term_sound r t e = by_term_if_sound r t (term_at adts q t) refl e
 
   -- ---- division
 
@@ -182,21 +187,22 @@ module _ (S : Structure) (s : ℕ) (q : Sequent) (ps : List Sequent) (h : AllTru
   math_int_sort math_int e = refl
   math_int_sort t e = absurd (cc)
 
-  -- an unbounded integer at the sequent has a number
-  number_value : (t : Pterm) (o : Option SortedTerm) (a : Term) → term_at q t ≡ o → number_if o ≡ Some a → (ρ : Env) → InSorts S q.vars ρ → (v : Value) → Means S a ρ v → (n : ℤ) × (v ≡ Number n)
-  number_value t None a p e ρ z v m = absurd (cc)
-  number_value t (Some b) a p e ρ z v m =
-      let c = picked (is_math_int b.sort) b.term a e in
-      let there : Means S b.term ρ v = subst (λ (u : Term). Means S u ρ v) (sym c.1) m in
-      let is = value_sorted S q ρ z t b p v there in
-      parts (declared S.theory) v math_int (subst (λ (u : Ty). HasSort (declared S.theory) v (instance S.types u)) (math_int_sort b.sort c.0) is)
-
   division_found : (o p : Option Term) (ts : List Term) → division_of o p ≡ Some ts → (a : Term) × (b : Term) × (o ≡ Some a) × (p ≡ Some b) × (division a b ≡ ts)
   division_found None p ts e = absurd (cc)
   division_found (Some a) None ts e = absurd (cc)
   division_found (Some a) (Some b) ts e = (a, b, refl, refl, same_some (division a b) ts e)
 
-  pub division_sound : (t u : Pterm) → division_rule s q t u ≡ Some ps → IsTrueAt S q
-  division_sound t u e = assuming_sound (division_of (number_if (term_at q t)) (number_if (term_at q u))) e (λ ts f ρ z k.
-      let d = division_found (number_if (term_at q t)) (number_if (term_at q u)) ts f in
-      subst (λ us. AllTrue S us ρ) d.4 (division_holds S ρ d.0 d.1 (number_value t (term_at q t) d.0 refl d.2 ρ z) (number_value u (term_at q u) d.1 refl d.3 ρ z)))
+  module _ (adts : List AdtDecl) (is : S.theory ≡ record { adts = adts }) where
+    -- an unbounded integer at the sequent has a number
+    number_value : (t : Pterm) (o : Option SortedTerm) (a : Term) → term_at adts q t ≡ o → number_if o ≡ Some a → (ρ : Env) → InSorts S q.vars ρ → (v : Value) → Means S a ρ v → (n : ℤ) × (v ≡ Number n)
+    number_value t None a p e ρ z v m = absurd (cc)
+    number_value t (Some b) a p e ρ z v m =
+        let c = picked (is_math_int b.sort) b.term a e in
+        let there : Means S b.term ρ v = subst (λ (u : Term). Means S u ρ v) (sym c.1) m in
+        let here = value_sorted S adts is q ρ z t b p v there in
+        parts (declared S.theory) v math_int (subst (λ (u : Ty). HasSort (declared S.theory) v (instance S.types u)) (math_int_sort b.sort c.0) here)
+
+    pub division_sound : (t u : Pterm) → division_rule adts s q t u ≡ Some ps → IsTrueAt S q
+    division_sound t u e = assuming_sound (division_of (number_if (term_at adts q t)) (number_if (term_at adts q u))) e (λ ts f ρ z k.
+        let d = division_found (number_if (term_at adts q t)) (number_if (term_at adts q u)) ts f in
+        subst (λ us. AllTrue S us ρ) d.4 (division_holds S ρ d.0 d.1 (number_value t (term_at adts q t) d.0 refl d.2 ρ z) (number_value u (term_at adts q u) d.1 refl d.3 ρ z)))

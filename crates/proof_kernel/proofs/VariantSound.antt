@@ -311,12 +311,12 @@ module _ (S : Structure) where
           let here : 0 + i.number ≡ i.number = omega arith in
           (c.0, c.1, c.2, subst (λ n. IsTrueAt S (premise_of by s q e.id (case_of e.arguments n c.0 i.decl.fields))) here c.3)
 
-      on_enum : (t : Pterm) (a : SortedTerm) (o : Option Enum) → term_at q t ≡ Some a → enum_of adts a.sort ≡ o → in_variants (analysis a.term) s q names o ≡ Some ps → IsTrueAt S q
+      on_enum : (t : Pterm) (a : SortedTerm) (o : Option Enum) → term_at adts q t ≡ Some a → enum_of adts a.sort ≡ o → in_variants (analysis a.term) s q names o ≡ Some ps → IsTrueAt S q
       on_enum t a None p e f = absurd (cc)
       on_enum t a (Some e) p there f = λ ρ z k n. has_value S a.term ρ (λ (w : (v : Value) × Means S a.term ρ v).
-          let i = in_variant e a.sort w.0 (enum_found adts a.sort e there) (value_sorted S q ρ z t a p w.0 w.1) in
+          let i = in_variant e a.sort w.0 (enum_found adts a.sort e there) (value_sorted S adts is q ρ z t a p w.0 w.1) in
           let c = case_true (analysis a.term) e w.0 i f in
-          analysis_true a.term s q e.id e.arguments i.number c.0 i.decl.fields i.values ρ c.2 c.1 (λ y among free_in. not_there (sort_of y q.vars) (term_names_there q t a p y free_in) (among_new c.0 q y c.2 among).in_vars) z k
+          analysis_true a.term s q e.id e.arguments i.number c.0 i.decl.fields i.values ρ c.2 c.1 (λ y among free_in. not_there (sort_of y q.vars) (term_names_there adts q t a p y free_in) (among_new c.0 q y c.2 among).in_vars) z k
           (subst (Means S a.term ρ) i.made w.1) i.sorts c.3 n)
         where
           not_there : (o : Option Ty) → (r : Ty) × (o ≡ Some r) → o ≡ None → ⊥
@@ -324,9 +324,9 @@ module _ (S : Structure) where
           not_there (Some r) g e = absurd (cc)
 
       pub variants_true : (t : Pterm) → variants_rule adts s q t names ≡ Some ps → IsTrueAt S q
-      variants_true t e = at (term_at q t) refl e
+      variants_true t e = at (term_at adts q t) refl e
         where
-          at : (o : Option SortedTerm) → term_at q t ≡ o → on_sorted adts s q names o ≡ Some ps → IsTrueAt S q
+          at : (o : Option SortedTerm) → term_at adts q t ≡ o → on_sorted adts s q names o ≡ Some ps → IsTrueAt S q
           at None p f = absurd (cc)
           at (Some a) p f = on_enum t a (enum_of adts a.sort) p refl f
 

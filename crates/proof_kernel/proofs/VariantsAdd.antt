@@ -75,7 +75,7 @@ module _ (P : Label2 → Type 0) (N : Name → Type 0) (s : ℕ) (own : (k : ℕ
       subst (Each (Has P N)) m.2 (premises_have by u.id m.0 (cases_named N u.arguments 0 u.variants names m.0 m.1 new))
 
   pub variants_have : (adts : List AdtDecl) (t : Pterm) → variants_rule adts s q t names ≡ Some ps → Each (Has P N) ps
-  variants_have adts t e = at (term_at q t) e
+  variants_have adts t e = at (term_at adts q t) e
     where
       at : (o : Option SortedTerm) → on_sorted adts s q names o ≡ Some ps → Each (Has P N) ps
       at None f = absurd (cc)

@@ -44,8 +44,8 @@ pub data Gives (w : Setting) (s : ℕ) (q : Sequent) : Step → List Sequent →
   by_rewriting : {r : Rewriting} {ps : List Sequent} → rewrite_rule r s q ≡ Some ps → Gives w s q (Rewrite r) ps
   by_deciding : {l : Label2} {to : Target} {ps : List Sequent} → decide_rule s q l to ≡ Some ps → Gives w s q (Decide l to) ps
   by_term : {r : TermRule} {t : Pterm} {ps : List Sequent} → term_rule w.tables.adts r s q t ≡ Some ps → Gives w s q (OnTerm r t) ps
-  by_division : {t u : Pterm} {ps : List Sequent} → division_rule s q t u ≡ Some ps → Gives w s q (Divide t u) ps
-  by_instance : {l : Label2} {ts : List Pterm} {ps : List Sequent} → instance_rule s q l ts ≡ Some ps → Gives w s q (Instantiate l ts) ps
+  by_division : {t u : Pterm} {ps : List Sequent} → division_rule w.tables.adts s q t u ≡ Some ps → Gives w s q (Divide t u) ps
+  by_instance : {l : Label2} {ts : List Pterm} {ps : List Sequent} → instance_rule w.tables.adts s q l ts ≡ Some ps → Gives w s q (Instantiate l ts) ps
   by_unpacking : {l : Label2} {x : Name} {ps : List Sequent} → IsNew x q → unpack_rule s q l x ≡ Some ps → Gives w s q (Unpack l x) ps
   by_variants : {t : Pterm} {names : List (List Name)} {ps : List Sequent} → AllNew names q → variants_rule w.tables.adts s q t names ≡ Some ps → Gives w s q (ByVariants t names) ps
   by_induction : {x : Name} {names : List (List Name)} {ps : List Sequent} → AllNew names q → free_in_hyps x q.hyps ≡ false → induction_rule w.tables.adts s q x names ≡ Some ps → Gives w s q (Induct x names) ps

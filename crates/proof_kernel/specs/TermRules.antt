@@ -1,4 +1,5 @@
--- What the steps by terms give. A term is elaborated at the sequent: its names are those of the sequent's variables.
+-- What the steps by terms give. A term is elaborated at the sequent: its names are those of the sequent's variables, and its fields those of the types that
+-- are declared (adts).
 use Rattle.std.specs.Prelude.{ℕ, pos, List, [], ◌∷◌, map, Option, Some, None, Result, Ok, Err, if◌then◌else◌}
 use Rattle.std.specs.Option.{option_map}
 use Rattle.text_core.specs.declared.name.Name.{Name}
@@ -30,16 +31,16 @@ abbrev pub symbol : Name → Ty → Symbol
 symbol x s = record { name = x; sort = s }
 
 -- the variables, each under its own name
-abbrev pub scope_of : List (Name × Ty) → Scope
-scope_of vars = record { variable = λ x. option_map (symbol x) (sort_of x vars); answer = None }
+abbrev pub scope_of : List AdtDecl → List (Name × Ty) → Scope
+scope_of adts vars = record { variable = λ x. option_map (symbol x) (sort_of x vars); answer = None; types = adts }
 
 abbrev pub if_sorted : Result SortedTerm SourceError → Option SortedTerm
 if_sorted (Err e) = None
 if_sorted (Ok a) = Some a
 
 -- what the term is at the sequent
-abbrev pub term_at : Sequent → Pterm → Option SortedTerm
-term_at q t = if_sorted (elaborated (scope_of q.vars) t)
+abbrev pub term_at : List AdtDecl → Sequent → Pterm → Option SortedTerm
+term_at adts q t = if_sorted (elaborated (scope_of adts q.vars) t)
 
 -- ---- formulas as hypotheses
 
@@ -80,7 +81,6 @@ abbrev pub bounds_at : Ty → Term → Option (List Term)
 bounds_at (int k) t = Some (bounds k t)
 bounds_at s t = None
 
--- adts: the types that are declared
 abbrev pub by_term : List AdtDecl → TermRule → ℕ → Sequent → SortedTerm → Option (List Sequent)
 by_term adts Cut s q a = option_map (shown_first s q) (formula a)
 by_term adts On s q a = option_map (true_or_false s q) (formula a)
@@ -93,7 +93,7 @@ by_term_if adts r s q None = None
 by_term_if adts r s q (Some a) = by_term adts r s q a
 
 abbrev pub term_rule : List AdtDecl → TermRule → ℕ → Sequent → Pterm → Option (List Sequent)
-term_rule adts r s q t = by_term_if adts r s q (term_at q t)
+term_rule adts r s q t = by_term_if adts r s q (term_at adts q t)
 
 -- ---- division, which truncates toward zero
 
@@ -137,5 +137,5 @@ division_of None o = None
 division_of (Some a) None = None
 division_of (Some a) (Some b) = Some (division a b)
 
-abbrev pub division_rule : ℕ → Sequent → Pterm → Pterm → Option (List Sequent)
-division_rule s q t u = assuming_all s q (division_of (number_if (term_at q t)) (number_if (term_at q u)))
+abbrev pub division_rule : List AdtDecl → ℕ → Sequent → Pterm → Pterm → Option (List Sequent)
+division_rule adts s q t u = assuming_all s q (division_of (number_if (term_at adts q t)) (number_if (term_at adts q u)))

@@ -113,7 +113,7 @@ on_sorted adts s q names (Some a) = in_variants (analysis a.term) s q names (enu
 
 -- a term of an enum is a value of one of its variants
 abbrev pub variants_rule : List AdtDecl → ℕ → Sequent → Pterm → List (List Name) → Option (List Sequent)
-variants_rule adts s q t names = on_sorted adts s q names (term_at q t)
+variants_rule adts s q t names = on_sorted adts s q names (term_at adts q t)
 
 abbrev pub induct_sorted : List AdtDecl → ℕ → Sequent → Name → List (List Name) → Option Ty → Option (List Sequent)
 induct_sorted adts s q x names None = None

@@ -8,7 +8,7 @@ ghost use Rattle.proof_kernel.specs.TermRules.{term_at};
 use crate::sequent::Sequent;
 use crate::term_rules::{assuming_all, term_at};
 use logic_elab::SortedTerm;
-use logic_term::{Label2, Quantifier, Replacement, Sort, Term, TermForm};
+use logic_term::{AdtDecl, Label2, Quantifier, Replacement, Sort, Term, TermForm};
 use source_trees::Pterm;
 use std::alloc::Global;
 use text_core::NoMemory;
@@ -40,13 +40,14 @@ fn put_first(found: SortedTerm, formula: &Term) -> Result<Option<(Replacement, T
 /// The same of a term at the sequent.
 fn put_at(
     alloc: Global,
+    adts: &[AdtDecl],
     q: &Sequent,
     t: &Pterm,
     formula: &Term,
 ) -> Result<Option<(Replacement, Term)>, NoMemory>
-    ensures { IfOk result (λ o. o ≡ put_first (term_at q.now t.now) formula.now) }
+    ensures { IfOk result (λ o. o ≡ put_first (term_at adts.now q.now t.now) formula.now) }
 {
-    match term_at(alloc, q, t)? {
+    match term_at(alloc, adts, q, t)? {
         None => Ok(None),
         Some(found) => put_first(found, formula),
     }
@@ -55,11 +56,12 @@ fn put_at(
 /// The formula with the terms for the names of its leading quantifiers; `None` exactly where there is no term, or one of them does not fit.
 fn instance(
     alloc: Global,
+    adts: &[AdtDecl],
     q: &Sequent,
     ts: &[Pterm],
     formula: Term,
 ) -> Result<Option<Term>, NoMemory>
-    ensures { IfOk result (λ o. o ≡ instance q.now ts.now formula) }
+    ensures { IfOk result (λ o. o ≡ instance adts.now q.now ts.now formula) }
 {
     if ts.is_empty() {
         return Ok(None);
@@ -67,7 +69,7 @@ fn instance(
     let mut put = Vec::with_capacity(alloc, ts.len())?;
     let mut body = formula;
     for i in 0..ts.len() {
-        let Some((entry, inner)) = put_at(alloc, q, &ts[i], &body)? else {
+        let Some((entry, inner)) = put_at(alloc, adts, q, &ts[i], &body)? else {
             return Ok(None);
         };
         put.push(entry)?;
@@ -80,17 +82,18 @@ fn instance(
 /// The premise of step `step`; `None` exactly where there is no such hypothesis, or no such instance of it.
 pub(crate) fn instance_rule(
     alloc: Global,
+    adts: &[AdtDecl],
     step: u32,
     label: Label2,
     ts: &[Pterm],
     q: &Sequent,
 ) -> Result<Option<Vec<Sequent>>, NoMemory>
-    ensures { IfOk result (λ o. Finds (instance_rule step q.now label ts.now) o) }
+    ensures { IfOk result (λ o. Finds (instance_rule adts.now step q.now label ts.now) o) }
 {
     let Some(formula) = q.hypothesis(alloc, label)? else {
         return Ok(None);
     };
-    let Some(found) = instance(alloc, q, ts, formula)? else {
+    let Some(found) = instance(alloc, adts, q, ts, formula)? else {
         return Ok(None);
     };
     Ok(Some(assuming_all(alloc, step, q, &[found])?))

@@ -322,7 +322,8 @@ fn by_division(
 ) -> Result<Made, NoMemory>
     ensures { IfOk result (λ made. IsMade (setting scope.now) number q.now (kinds.Divide t.now u.now) made) }
 {
-    match division_rule(alloc, number, t, u, q)? {
+    let adts = scope.tables.adts.as_slice();
+    match division_rule(alloc, adts, number, t, u, q)? {
         None => Ok(Made::Nothing),
         Some(premises) => Ok(Made::Premises(premises)),
     }
@@ -338,7 +339,8 @@ fn by_instance(
 ) -> Result<Made, NoMemory>
     ensures { IfOk result (λ made. IsMade (setting scope.now) number q.now (kinds.Instantiate label ts.now) made) }
 {
-    match instance_rule(alloc, number, label, ts.as_slice(), q)? {
+    let adts = scope.tables.adts.as_slice();
+    match instance_rule(alloc, adts, number, label, ts.as_slice(), q)? {
         None => Ok(Made::Nothing),
         Some(premises) => Ok(Made::Premises(premises)),
     }

@@ -20,16 +20,17 @@ use source_trees::Pterm;
 use std::alloc::Global;
 use text_core::{Name, NoMemory, PassError};
 
-/// What names mean at a sequent: its variables.
+/// What names mean at a sequent: its variables; and the declared types.
 #[derive(Clone, Copy)]
 struct Variables<'a> {
+    adts: &'a [AdtDecl],
     sequent: &'a Sequent,
 }
 
 impl<'a> TermScope for Variables<'a> {
     ghost use Rattle.proof_kernel.specs.TermRules.{scope_of as scope_at};
 
-    ghost scope = { λ variables. scope_at variables.sequent.now.vars };
+    ghost scope = { λ variables. scope_at variables.adts.now variables.sequent.now.vars };
 
     fn variable(&self, alloc: Global, name: Name) -> Result<Option<Symbol>, NoMemory> {
         match self.sequent.sort_of(name) {
@@ -44,13 +45,22 @@ impl<'a> TermScope for Variables<'a> {
     fn answer(&self, _alloc: Global) -> Result<Option<Symbol>, NoMemory> {
         Ok(None)
     }
+
+    fn types(&self) -> &[AdtDecl] {
+        self.adts
+    }
 }
 
 /// What the term is at the sequent; `None` exactly where it does not elaborate.
-pub(crate) fn term_at(alloc: Global, q: &Sequent, t: &Pterm) -> Result<Option<SortedTerm>, NoMemory>
-    ensures { IfOk result (λ o. o ≡ term_at q.now t.now) }
+pub(crate) fn term_at(
+    alloc: Global,
+    adts: &[AdtDecl],
+    q: &Sequent,
+    t: &Pterm,
+) -> Result<Option<SortedTerm>, NoMemory>
+    ensures { IfOk result (λ o. o ≡ term_at adts.now q.now t.now) }
 {
-    let scope = Variables { sequent: q };
+    let scope = Variables { adts, sequent: q };
     match elaborate(alloc, &scope, t) {
         Ok(term) => Ok(Some(term)),
         Err(PassError::Source(_)) => Ok(None),
@@ -239,7 +249,7 @@ pub(crate) fn term_rule(
 ) -> Result<Option<Vec<Sequent>>, NoMemory>
     ensures { IfOk result (λ o. Finds (term_rule adts.now rule step q.now t.now) o) }
 {
-    match term_at(alloc, q, t)? {
+    match term_at(alloc, adts, q, t)? {
         None => Ok(None),
         Some(term) => by_term(alloc, adts, rule, step, q, term),
     }
@@ -333,10 +343,15 @@ fn division(alloc: Global, a: &Term, b: &Term) -> Result<Vec<Term>, NoMemory>
 }
 
 /// The term, if it is an unbounded integer at the sequent.
-fn number_at(alloc: Global, q: &Sequent, t: &Pterm) -> Result<Option<Term>, NoMemory>
-    ensures { IfOk result (λ o. o ≡ number_if (term_at q.now t.now)) }
+fn number_at(
+    alloc: Global,
+    adts: &[AdtDecl],
+    q: &Sequent,
+    t: &Pterm,
+) -> Result<Option<Term>, NoMemory>
+    ensures { IfOk result (λ o. o ≡ number_if (term_at adts.now q.now t.now)) }
 {
-    let Some(term) = term_at(alloc, q, t)? else {
+    let Some(term) = term_at(alloc, adts, q, t)? else {
         return Ok(None);
     };
     let SortedTerm { sort, term } = term;
@@ -349,17 +364,18 @@ fn number_at(alloc: Global, q: &Sequent, t: &Pterm) -> Result<Option<Term>, NoMe
 /// The premise of step `step` by two terms; `None` exactly where one of them is no unbounded integer at the sequent.
 pub(crate) fn division_rule(
     alloc: Global,
+    adts: &[AdtDecl],
     step: u32,
     t: &Pterm,
     u: &Pterm,
     q: &Sequent,
 ) -> Result<Option<Vec<Sequent>>, NoMemory>
-    ensures { IfOk result (λ o. Finds (division_rule step q.now t.now u.now) o) }
+    ensures { IfOk result (λ o. Finds (division_rule adts.now step q.now t.now u.now) o) }
 {
-    let Some(a) = number_at(alloc, q, t)? else {
+    let Some(a) = number_at(alloc, adts, q, t)? else {
         return Ok(None);
     };
-    let Some(b) = number_at(alloc, q, u)? else {
+    let Some(b) = number_at(alloc, adts, q, u)? else {
         return Ok(None);
     };
     let formulas = division(alloc, &a, &b)?;

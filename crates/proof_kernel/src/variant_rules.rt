@@ -343,7 +343,7 @@ pub(crate) fn variants_rule(
 ) -> Result<Option<Vec<Sequent>>, NoMemory>
     ensures { IfOk result (λ o. Finds (variants_rule adts.now step q.now t.now names.now) o) }
 {
-    let Some(found) = term_at(alloc, q, t)? else {
+    let Some(found) = term_at(alloc, adts, q, t)? else {
         return Ok(None);
     };
     let SortedTerm { sort, term } = found;

@@ -135,18 +135,18 @@ mutual
   types σ Γ (E.repeat s None c b) t = by_rule
       (at_part (outside σ) Γ c (Some bool) (typed (outside σ) Γ c (Some bool)) _ _ (types (outside σ) Γ c (Some bool))
       (λ x. at_part (looping σ) Γ b (Some unit) (typed (looping σ) Γ b (Some unit)) _ _ (types (looping σ) Γ b (Some unit)) (λ y. itself)))
-  types σ Γ (E.attributed s is (E.repeat v None c b)) t = by_rule (at_first (gather (invariant_of Γ) is) _ _
+  types σ Γ (E.attributed s is (E.repeat v None c b)) t = by_rule (at_first (gather (invariant_of σ.types Γ) is) _ _
       (λ is'. at_part (outside σ) Γ c (Some bool) (typed (outside σ) Γ c (Some bool)) _ _ (types (outside σ) Γ c (Some bool))
       (λ x. at_part (looping σ) Γ b (Some unit) (typed (looping σ) Γ b (Some unit)) _ _ (types (looping σ) Γ b (Some unit)) (λ y. itself))))
   types σ Γ (E.repeat s (Some p) c b) t = by_rule
       (at_part (outside σ) Γ c None (typed (outside σ) Γ c None) _ _ (types (outside σ) Γ c None)
       (λ a. at_arm (looping σ) Γ (ty_of a) (Some unit) p b _ _ (λ g. types (looping σ) (in_arm Γ g.1) b (Some unit)) (λ x. itself)))
-  types σ Γ (E.attributed s is (E.repeat v (Some p) c b)) t = by_rule (at_first (gather (invariant_of Γ) is) _ _
+  types σ Γ (E.attributed s is (E.repeat v (Some p) c b)) t = by_rule (at_first (gather (invariant_of σ.types Γ) is) _ _
       (λ is'. at_part (outside σ) Γ c None (typed (outside σ) Γ c None) _ _ (types (outside σ) Γ c None)
       (λ a. at_arm (looping σ) Γ (ty_of a) (Some unit) p b _ _ (λ g. types (looping σ) (in_arm Γ g.1) b (Some unit)) (λ x. itself))))
   types σ Γ (E.return_with s e) t = by_rule (at_part σ Γ e (Some σ.answer) (typed σ Γ e (Some σ.answer)) _ _ (types σ Γ e (Some σ.answer)) (λ a. itself))
   types σ Γ (E.endless s b) t = by_rule (at_part (looping σ) Γ b (Some unit) (typed (looping σ) Γ b (Some unit)) _ _ (types (looping σ) Γ b (Some unit)) (λ x. itself))
-  types σ Γ (E.attributed s is (E.endless v b)) t = by_rule (at_first (gather (invariant_of Γ) is) _ _
+  types σ Γ (E.attributed s is (E.endless v b)) t = by_rule (at_first (gather (invariant_of σ.types Γ) is) _ _
       (λ is'. at_part (looping σ) Γ b (Some unit) (typed (looping σ) Γ b (Some unit)) _ _ (types (looping σ) Γ b (Some unit)) (λ x. itself)))
   types σ Γ e t = by_rule itself
 

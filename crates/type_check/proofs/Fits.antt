@@ -366,26 +366,26 @@ SomeSpeaks n (Some a) = SpeaksOf n a
 same_some : (o p : Option Assertion) → yes o ≡ Ok p → o ≡ p
 same_some o p q = same_ok _ _ q
 
-invariant_speaks : (Γ : List Variable) (s : Span) (n : AttributeNode) (o : Option Assertion) → invariant_by Γ s n ≡ Ok o → SomeSpeaks (length (types Γ)) o
-invariant_speaks Γ s (A.Clause Invariant t) o p = subst (SomeSpeaks (length (types Γ))) (same_some (Some (assertion None Γ t)) o p) (speaks_there Γ (assertion None Γ t) (assertion_speaks Γ t))
-invariant_speaks Γ s A.Skipped o p = subst (SomeSpeaks (length (types Γ))) (same_some None o p) tt
-invariant_speaks Γ s n o p = absurd (cc)
+invariant_speaks : (ds : List AdtDecl) (Γ : List Variable) (s : Span) (n : AttributeNode) (o : Option Assertion) → invariant_by ds Γ s n ≡ Ok o → SomeSpeaks (length (types Γ)) o
+invariant_speaks ds Γ s (A.Clause Invariant t) o p = subst (SomeSpeaks (length (types Γ))) (same_some (Some (assertion ds None Γ t)) o p) (speaks_there Γ (assertion ds None Γ t) (assertion_speaks ds Γ t))
+invariant_speaks ds Γ s A.Skipped o p = subst (SomeSpeaks (length (types Γ))) (same_some None o p) tt
+invariant_speaks ds Γ s n o p = absurd (cc)
 
-attribute_speaks : (Γ : List Variable) (a : Attribute) (o : Option Assertion) → invariant_of Γ a ≡ Ok o → SomeSpeaks (length (types Γ)) o
+attribute_speaks : (ds : List AdtDecl) (Γ : List Variable) (a : Attribute) (o : Option Assertion) → invariant_of ds Γ a ≡ Ok o → SomeSpeaks (length (types Γ)) o
 unfolding invariant_of
-attribute_speaks Γ a o p = invariant_speaks Γ a.span a.node o p
+attribute_speaks ds Γ a o p = invariant_speaks ds Γ a.span a.node o p
 
 joined_speak : (n : ℕ) (o : Option Assertion) (rest : List Assertion) → SomeSpeaks n o → EachSpeaks n rest → EachSpeaks n (with_some o rest)
 joined_speak n None rest h k = k
 joined_speak n (Some a) rest h k = (h, k)
 
-invariants_speak : (Γ : List Variable) (as' : List Attribute) (is : List Assertion) → gather (invariant_of Γ) as' ≡ Ok is → EachSpeaks (length (types Γ)) is
-invariants_speak Γ [] is p = subst (EachSpeaks (length (types Γ))) (same_ok _ _ p) tt
-invariants_speak Γ (a ∷ as') is p =
-    let o = bound (invariant_of Γ a) _ is p in
-    let rest = bound (gather (invariant_of Γ) as') _ is o.2 in
+invariants_speak : (ds : List AdtDecl) (Γ : List Variable) (as' : List Attribute) (is : List Assertion) → gather (invariant_of ds Γ) as' ≡ Ok is → EachSpeaks (length (types Γ)) is
+invariants_speak ds Γ [] is p = subst (EachSpeaks (length (types Γ))) (same_ok _ _ p) tt
+invariants_speak ds Γ (a ∷ as') is p =
+    let o = bound (invariant_of ds Γ a) _ is p in
+    let rest = bound (gather (invariant_of ds Γ) as') _ is o.2 in
     subst (EachSpeaks (length (types Γ))) (same_ok _ _ rest.2)
-    (joined_speak (length (types Γ)) o.0 rest.0 (attribute_speaks Γ a o.0 o.1) (invariants_speak Γ as' rest.0 rest.1))
+    (joined_speak (length (types Γ)) o.0 rest.0 (attribute_speaks ds Γ a o.0 o.1) (invariants_speak ds Γ as' rest.0 rest.1))
 
 -- ---- what leaves
 
@@ -676,12 +676,12 @@ mutual
       let sy = typed_sound (looping σ) Γ b (Some unit) y.0 (within_built true σ Γ ho) tt y.1 in
       fit_sound σ Γ t s (tree.repeat unit s [] x.0 y.0) r (refl, tt, sx.meets, sy.meets, sx.well, sy.well) tt y.2
   typed_sound σ Γ (E.attributed s as' (E.repeat v None c b)) t r ho ht p =
-      let is = bound (gather (invariant_of Γ) as') _ r p in
+      let is = bound (gather (invariant_of σ.types Γ) as') _ r p in
       let x = bound (typed (outside σ) Γ c (Some bool)) _ r is.2 in
       let y = bound (typed (looping σ) Γ b (Some unit)) _ r x.2 in
       let sx = typed_sound (outside σ) Γ c (Some bool) x.0 (within_built false σ Γ ho) tt x.1 in
       let sy = typed_sound (looping σ) Γ b (Some unit) y.0 (within_built true σ Γ ho) tt y.1 in
-      fit_sound σ Γ t s (tree.repeat unit s is.0 x.0 y.0) r (refl, invariants_speak Γ as' is.0 is.1, sx.meets, sy.meets, sx.well, sy.well) tt y.2
+      fit_sound σ Γ t s (tree.repeat unit s is.0 x.0 y.0) r (refl, invariants_speak σ.types Γ as' is.0 is.1, sx.meets, sy.meets, sx.well, sy.well) tt y.2
   typed_sound σ Γ (E.repeat s (Some w) c b) t r ho ht p =
       let a = bound (typed (outside σ) Γ c None) _ r p in
       let x = bound (typed_arm (looping σ) Γ (ty_of a.0) (Some unit) w b) _ r a.2 in
@@ -689,12 +689,12 @@ mutual
       let sx = arm_sound (looping σ) Γ (ty_of a.0) (Some unit) w (λ g. typed (looping σ) (in_arm Γ g.1) b (Some unit)) x.0 (within_built true σ Γ ho) (λ g y hg q. typed_sound (looping σ) (in_arm Γ g.1) b (Some unit) y hg tt q) x.1 in
       repeated_sound σ Γ t s [] a.0 x.0 r tt sa.well sx x.2
   typed_sound σ Γ (E.attributed s as' (E.repeat v (Some w) c b)) t r ho ht p =
-      let is = bound (gather (invariant_of Γ) as') _ r p in
+      let is = bound (gather (invariant_of σ.types Γ) as') _ r p in
       let a = bound (typed (outside σ) Γ c None) _ r is.2 in
       let x = bound (typed_arm (looping σ) Γ (ty_of a.0) (Some unit) w b) _ r a.2 in
       let sa = typed_sound (outside σ) Γ c None a.0 (within_built false σ Γ ho) tt a.1 in
       let sx = arm_sound (looping σ) Γ (ty_of a.0) (Some unit) w (λ g. typed (looping σ) (in_arm Γ g.1) b (Some unit)) x.0 (within_built true σ Γ ho) (λ g y hg q. typed_sound (looping σ) (in_arm Γ g.1) b (Some unit) y hg tt q) x.1 in
-      repeated_sound σ Γ t s is.0 a.0 x.0 r (invariants_speak Γ as' is.0 is.1) sa.well sx x.2
+      repeated_sound σ Γ t s is.0 a.0 x.0 r (invariants_speak σ.types Γ as' is.0 is.1) sa.well sx x.2
   typed_sound σ Γ (E.panic s m text) t r ho ht p = panicked_sound σ Γ t s m r ht p
   typed_sound σ Γ (E.bare_return s) t r ho ht p = bare_return_sound σ Γ t s r ht p
   typed_sound σ Γ (E.return_with s e) t r ho ht p =
@@ -706,10 +706,10 @@ mutual
       let sx = typed_sound (looping σ) Γ b (Some unit) x.0 (within_built true σ Γ ho) tt x.1 in
       endless_sound σ Γ t s [] x.0 r ht tt sx.meets sx.well x.2
   typed_sound σ Γ (E.attributed s as' (E.endless v b)) t r ho ht p =
-      let is = bound (gather (invariant_of Γ) as') _ r p in
+      let is = bound (gather (invariant_of σ.types Γ) as') _ r p in
       let x = bound (typed (looping σ) Γ b (Some unit)) _ r is.2 in
       let sx = typed_sound (looping σ) Γ b (Some unit) x.0 (within_built true σ Γ ho) tt x.1 in
-      endless_sound σ Γ t s is.0 x.0 r ht (invariants_speak Γ as' is.0 is.1) sx.meets sx.well x.2
+      endless_sound σ Γ t s is.0 x.0 r ht (invariants_speak σ.types Γ as' is.0 is.1) sx.meets sx.well x.2
   typed_sound σ Γ (E.break_off s) t r ho ht p = break_sound σ Γ t s r ht p
   typed_sound σ Γ (E.go_on s) t r ho ht p = continue_sound σ Γ t s r ht p
   typed_sound σ Γ e t r ho ht p = absurd (cc)

@@ -1,5 +1,5 @@
--- Fields and parts: where there are none, and that what is found has its type.
-use Rattle.std.proofs.Common.{◌≡◌, ◌∙◌, ℕ, suc, ◌+◌, ◌^◌, Bool, true, false, List, [], ◌∷◌, Option, Some, None, refl, ap, sym, subst, arith}
+-- Fields and parts: what is found has its type.
+use Rattle.std.proofs.Common.{◌≡◌, ◌∙◌, ℕ, suc, ◌+◌, Bool, true, false, List, [], ◌∷◌, Option, Some, None, refl, ap, sym, subst, arith}
 use Rattle.std.specs.Option.{option_map}
 use Rattle.std.specs.Prelude.{slice_get, ◌==◌, if◌then◌else◌}
 use Rattle.text_core.specs.declared.name.Name.{Name}
@@ -7,21 +7,13 @@ use Rattle.logic_term.specs.declared.declaration.AdtDecl.{AdtDecl}
 use Rattle.logic_term.specs.declared.declaration.FieldDecl.{FieldDecl}
 use Rattle.logic_term.specs.declared.kinds.TyUnary.{TyUnary}
 use Rattle.logic_term.specs.declared.kinds.TyUnary.TheVariants as unary
+use Rattle.logic_term.specs.Sorted.{sort_at}
 use Rattle.logic_term.specs.Ty.{Ty, Tys, tuple, adt}
-use Rattle.logic_term.specs.declared.ty.CompoundTy.{CompoundTy}
-use Rattle.logic_term.specs.declared.ty.CompoundTy.TheVariants as compound
-use Rattle.logic_term.specs.TyView.{compound_of, made_by}
-use Rattle.type_check.specs.Makers.{arguments_from}
+use Rattle.logic_term.specs.TyView.{made_by}
 use Rattle.constructors.specs.FieldNames.{numbered}
-use Rattle.type_check.specs.Typing.{field_from, field_of, part_of, part_if, with_number}
-use Rattle.type_check.specs.WellTyped.{field_at, nth_part, part_ty, struct_fields}
-
-pub unary_field : (ds : List AdtDecl) (x : Name) (op : TyUnary) (t : Ty) → field_of ds x (made_by op t) ≡ None
-unary_field ds x unary.Boxed t = refl
-unary_field ds x (unary.Shared r) t = refl
-unary_field ds x (unary.Unique r) t = refl
-unary_field ds x unary.View t = refl
-unary_field ds x unary.Snapshot t = refl
+use Rattle.type_parts.specs.Parts.{field_at, field_from, field_of, part_of, part_if, struct_fields, with_number}
+use Rattle.type_check.specs.Makers.{arguments_from}
+use Rattle.type_check.specs.WellTyped.{part_ty}
 
 pub no_unary_arguments : (n : ℕ) (op : TyUnary) (t : Ty) → arguments_from n (Some (made_by op t)) ≡ None
 no_unary_arguments n unary.Boxed t = refl
@@ -29,25 +21,6 @@ no_unary_arguments n (unary.Shared r) t = refl
 no_unary_arguments n (unary.Unique r) t = refl
 no_unary_arguments n unary.View t = refl
 no_unary_arguments n unary.Snapshot t = refl
-
-pub unary_part : (ds : List AdtDecl) (n : ℕ) (op : TyUnary) (t : Ty) → part_of ds (made_by op t) n ≡ field_of ds (numbered n) (made_by op t)
-unary_part ds n unary.Boxed t = refl
-unary_part ds n (unary.Shared r) t = refl
-unary_part ds n (unary.Unique r) t = refl
-unary_part ds n unary.View t = refl
-unary_part ds n unary.Snapshot t = refl
-
-closure_part : (ds : List AdtDecl) (n : ℕ) (c : CompoundTy) → part_of ds (compound_of c) n ≡ field_of ds (numbered n) (compound_of c)
-closure_part ds n (compound.Adt d rs ts) = refl
-closure_part ds n (compound.Unary op t) = unary_part ds n op t
-closure_part ds n (compound.Closure k ts cs b) = refl
-
--- in what is no tuple the part is that of the number's name
-pub numbered_part : (ds : List AdtDecl) (n : ℕ) (c : CompoundTy) (x : Name) → x.0 ≡ 2 ^ 63 + n → field_of ds x (compound_of c) ≡ part_of ds (compound_of c) n
-unfolding numbered
-numbered_part ds n c x e = ap (λ k. field_of ds (record { 0 = k }) (compound_of c)) e ∙ sym (closure_part ds n c)
-
-pub ruleset no_unary_field = (unary_field, unary_part)
 
 -- ---- what is found has its type
 
@@ -80,8 +53,8 @@ numbered_has_type n (Some t) p h = let q : (n, t) ≡ p = cc in (sym (ap (λ (p 
 
 part_has_type : (ds : List AdtDecl) (t : Ty) (n : ℕ) (p : ℕ × Ty) → part_of ds t n ≡ Some p → part_ty ds t p.0 ≡ Some p.1
 part_has_type ds (tuple ts) n p h =
-    let r = numbered_has_type n (nth_part ts n) p h in
-    subst (λ m. nth_part ts m ≡ Some p.1) (sym r.0) r.1
+    let r = numbered_has_type n (sort_at ts n) p h in
+    subst (λ m. sort_at ts m ≡ Some p.1) (sym r.0) r.1
 part_has_type ds (adt d rs ts) n p h = field_has_type ds (numbered n) (adt d rs ts) p h
 part_has_type ds t n p h = absurd (cc)
 

@@ -302,22 +302,22 @@ step_stops σ kind.Blocklike e p = absurd (cc)
 
 -- ---- loops
 
-invariant_stops : (Γ : List Variable) (s : Span) (n : AttributeNode) (e : SourceError) → invariant_by Γ s n ≡ Err e → IsUnbuilt e
-invariant_stops Γ s (A.Clause Invariant t) e p = absurd (cc)
-invariant_stops Γ s A.Skipped e p = absurd (cc)
-invariant_stops Γ s n e p = not_built {A = Option Assertion} s e p
+invariant_stops : (ds : List AdtDecl) (Γ : List Variable) (s : Span) (n : AttributeNode) (e : SourceError) → invariant_by ds Γ s n ≡ Err e → IsUnbuilt e
+invariant_stops ds Γ s (A.Clause Invariant t) e p = absurd (cc)
+invariant_stops ds Γ s A.Skipped e p = absurd (cc)
+invariant_stops ds Γ s n e p = not_built {A = Option Assertion} s e p
 
-attribute_stops : (Γ : List Variable) (a : Attribute) (e : SourceError) → invariant_of Γ a ≡ Err e → IsUnbuilt e
+attribute_stops : (ds : List AdtDecl) (Γ : List Variable) (a : Attribute) (e : SourceError) → invariant_of ds Γ a ≡ Err e → IsUnbuilt e
 unfolding invariant_of
-attribute_stops Γ a e p = invariant_stops Γ a.span a.node e p
+attribute_stops ds Γ a e p = invariant_stops ds Γ a.span a.node e p
 
-invariants_stop : (Γ : List Variable) (as' : List Attribute) (e : SourceError) → gather (invariant_of Γ) as' ≡ Err e → IsUnbuilt e
-invariants_stop Γ [] e p = absurd (cc)
-invariants_stop Γ (a ∷ as') e p =
-    elim (stop (invariant_of Γ a) _ e p) as (λ _. IsUnbuilt e) [
-      | inl q ↦ attribute_stops Γ a e q
-      | inr o ↦ elim (stop (gather (invariant_of Γ) as') _ e o.2) as (λ _. IsUnbuilt e) [
-        | inl q ↦ invariants_stop Γ as' e q
+invariants_stop : (ds : List AdtDecl) (Γ : List Variable) (as' : List Attribute) (e : SourceError) → gather (invariant_of ds Γ) as' ≡ Err e → IsUnbuilt e
+invariants_stop ds Γ [] e p = absurd (cc)
+invariants_stop ds Γ (a ∷ as') e p =
+    elim (stop (invariant_of ds Γ a) _ e p) as (λ _. IsUnbuilt e) [
+      | inl q ↦ attribute_stops ds Γ a e q
+      | inr o ↦ elim (stop (gather (invariant_of ds Γ) as') _ e o.2) as (λ _. IsUnbuilt e) [
+        | inl q ↦ invariants_stop ds Γ as' e q
         | inr rest ↦ absurd (no_type (with_some o.0 rest.0) e rest.2)
       ]
     ]
@@ -498,8 +498,8 @@ mutual
         ]
       ]
   typed_stops σ Γ (E.attributed s as' (E.repeat v None c b)) t e p =
-      elim (stop (gather (invariant_of Γ) as') _ e p) as (λ _. Causes σ Γ (E.attributed s as' (E.repeat v None c b)) e) [
-        | inl q ↦ inl (inr (invariants_stop Γ as' e q))
+      elim (stop (gather (invariant_of σ.types Γ) as') _ e p) as (λ _. Causes σ Γ (E.attributed s as' (E.repeat v None c b)) e) [
+        | inl q ↦ inl (inr (invariants_stop σ.types Γ as' e q))
         | inr is ↦ elim (stop (typed (outside σ) Γ c (Some bool)) _ e is.2) as (λ _. Causes σ Γ (E.attributed s as' (E.repeat v None c b)) e) [
           | inl q ↦ inr (inl (typed_stops (outside σ) Γ c (Some bool) e q))
           | inr x ↦ elim (stop (typed (looping σ) Γ b (Some unit)) _ e x.2) as (λ _. Causes σ Γ (E.attributed s as' (E.repeat v None c b)) e) [
@@ -517,8 +517,8 @@ mutual
         ]
       ]
   typed_stops σ Γ (E.attributed s as' (E.repeat y (Some w) c b)) t e p =
-      elim (stop (gather (invariant_of Γ) as') _ e p) as (λ _. Causes σ Γ (E.attributed s as' (E.repeat y (Some w) c b)) e) [
-        | inl q ↦ inl (inr (invariants_stop Γ as' e q))
+      elim (stop (gather (invariant_of σ.types Γ) as') _ e p) as (λ _. Causes σ Γ (E.attributed s as' (E.repeat y (Some w) c b)) e) [
+        | inl q ↦ inl (inr (invariants_stop σ.types Γ as' e q))
         | inr is ↦ elim (stop (typed (outside σ) Γ c None) _ e is.2) as (λ _. Causes σ Γ (E.attributed s as' (E.repeat y (Some w) c b)) e) [
           | inl q ↦ inr (inl (typed_stops (outside σ) Γ c None e q))
           | inr v ↦ elim (stop (typed_arm (looping σ) Γ (ty_of v.0) (Some unit) w b) _ e v.2) as (λ _. Causes σ Γ (E.attributed s as' (E.repeat y (Some w) c b)) e) [
@@ -540,8 +540,8 @@ mutual
         | inr x ↦ inl (endless_stops t s [] x.0 e x.2)
       ]
   typed_stops σ Γ (E.attributed s as' (E.endless v b)) t e p =
-      elim (stop (gather (invariant_of Γ) as') _ e p) as (λ _. Causes σ Γ (E.attributed s as' (E.endless v b)) e) [
-        | inl q ↦ inl (inr (invariants_stop Γ as' e q))
+      elim (stop (gather (invariant_of σ.types Γ) as') _ e p) as (λ _. Causes σ Γ (E.attributed s as' (E.endless v b)) e) [
+        | inl q ↦ inl (inr (invariants_stop σ.types Γ as' e q))
         | inr is ↦ elim (stop (typed (looping σ) Γ b (Some unit)) _ e is.2) as (λ _. Causes σ Γ (E.attributed s as' (E.endless v b)) e) [
           | inl q ↦ inr (typed_stops (looping σ) Γ b (Some unit) e q)
           | inr x ↦ inl (inl (endless_stops t s is.0 x.0 e x.2))

@@ -4,6 +4,7 @@ use Rattle.std.specs.Option.{option_map}
 use Rattle.text_core.specs.declared.name.Name.{Name}
 use Rattle.text_core.specs.declared.refusal.SourceError.{SourceError}
 use Rattle.text_core.specs.declared.span.Span.{Span}
+use Rattle.logic_term.specs.declared.declaration.AdtDecl.{AdtDecl}
 use Rattle.logic_term.specs.Free.{free}
 use Rattle.logic_term.specs.Term.{Term}
 use Rattle.logic_term.specs.Ty.{Ty}
@@ -48,8 +49,8 @@ answer_heard : (A : Option Ty) (n : ℕ) (x : Name) (a : Symbol) → option_map 
 answer_heard None n x a e q = absurd (cc)
 answer_heard (Some t) n x a e q = let same : answer_symbol t ≡ a = cc in inr (q ∙ sym (ap (λ (b : Symbol). b.name) same))
 
-spoken_heard : (A : Option Ty) (Γ : List Variable) (x : Name) → IsSpokenOf (spoken A Γ) x → Heard A (length Γ) x
-spoken_heard A Γ x h = elim h as (λ _. Heard A (length Γ) x) [
+spoken_heard : (ds : List AdtDecl) (A : Option Ty) (Γ : List Variable) (x : Name) → IsSpokenOf (spoken ds A Γ) x → Heard A (length Γ) x
+spoken_heard ds A Γ x h = elim h as (λ _. Heard A (length Γ) x) [
   | inl p ↦ variable_heard A Γ x p.1 (found p.0 Γ) (found_within Γ p.0) p.2 p.3
   | inr p ↦ answer_heard A (length Γ) x p.0 p.1 p.2
 ]
@@ -58,11 +59,11 @@ formula_is : (s : Span) (a : SortedTerm) (t : Term) → formula s a ≡ Ok t →
 unfolding formula
 formula_is s a t p = same_ok _ _ (held (is_bool a.sort) (Ok a.term) (mismatch s) t p).1
 
-asserted_only : (A : Option Ty) (Γ : List Variable) (t : Pterm) (u : Term) → asserted (spoken A Γ) t ≡ Ok u → Only (Heard A (length Γ)) u
-asserted_only A Γ t u p x f =
-    let a = bound (elaborated (spoken A Γ) t) (formula (span_of t)) u p in
+asserted_only : (ds : List AdtDecl) (A : Option Ty) (Γ : List Variable) (t : Pterm) (u : Term) → asserted (spoken ds A Γ) t ≡ Ok u → Only (Heard A (length Γ)) u
+asserted_only ds A Γ t u p x f =
+    let a = bound (elaborated (spoken ds A Γ) t) (formula (span_of t)) u p in
     let there : free x a.0.term ≡ true = ap (free x) (formula_is (span_of t) a.0 u a.2) ∙ f in
-    spoken_heard A Γ x (terms_speak_of_their_scope (spoken A Γ) t a.0 a.1 x there)
+    spoken_heard ds A Γ x (terms_speak_of_their_scope (spoken ds A Γ) t a.0 a.1 x there)
 
 kept_speaks : (n : ℕ) (s : Span) (m : Result Term SourceError) → ((u : Term) → m ≡ Ok u → Only (IsVariable n) u) → SpeaksOf n (kept s m)
 kept_speaks n s (Ok u) h = h u refl
@@ -73,8 +74,8 @@ kept_speaks_of_answer n s (Ok u) h = h u refl
 kept_speaks_of_answer n s (Err e) h = tt
 
 -- an invariant or a `requires` speaks of the variables in scope alone
-pub assertion_speaks : (Γ : List Variable) (t : Pterm) → SpeaksOf (length Γ) (assertion None Γ t)
-assertion_speaks Γ t = kept_speaks (length Γ) (span_of t) (asserted (spoken None Γ) t) (asserted_only None Γ t)
+pub assertion_speaks : (ds : List AdtDecl) (Γ : List Variable) (t : Pterm) → SpeaksOf (length Γ) (assertion ds None Γ t)
+assertion_speaks ds Γ t = kept_speaks (length Γ) (span_of t) (asserted (spoken ds None Γ) t) (asserted_only ds None Γ t)
 
-pub assertion_speaks_of_answer : (u : Ty) (Γ : List Variable) (t : Pterm) → SpeaksOfAnswer (length Γ) (assertion (Some u) Γ t)
-assertion_speaks_of_answer u Γ t = kept_speaks_of_answer (length Γ) (span_of t) (asserted (spoken (Some u) Γ) t) (asserted_only (Some u) Γ t)
+pub assertion_speaks_of_answer : (ds : List AdtDecl) (u : Ty) (Γ : List Variable) (t : Pterm) → SpeaksOfAnswer (length Γ) (assertion ds (Some u) Γ t)
+assertion_speaks_of_answer ds u Γ t = kept_speaks_of_answer (length Γ) (span_of t) (asserted (spoken ds (Some u) Γ) t) (asserted_only ds (Some u) Γ t)

@@ -183,7 +183,7 @@ typed_named σ Γ (E.repeat s None c b) t r p =
     let y = bound (typed (looping σ) Γ b (Some unit)) _ r x.2 in
     fit_named Γ None t s (tree.repeat unit s [] x.0 y.0) r tt y.2
 typed_named σ Γ (E.attributed s is (E.repeat v None c b)) t r p =
-    let is' = bound (gather (invariant_of Γ) is) _ r p in
+    let is' = bound (gather (invariant_of σ.types Γ) is) _ r p in
     let x = bound (typed (outside σ) Γ c (Some bool)) _ r is'.2 in
     let y = bound (typed (looping σ) Γ b (Some unit)) _ r x.2 in
     fit_named Γ None t s (tree.repeat unit s is'.0 x.0 y.0) r tt y.2
@@ -192,7 +192,7 @@ typed_named σ Γ (E.repeat s (Some w) c b) t r p =
     let x = bound (typed_arm (looping σ) Γ (ty_of a.0) (Some unit) w b) _ r a.2 in
     fit_named Γ None t s (repeated_by s [] a.0 x.0) r tt x.2
 typed_named σ Γ (E.attributed s is (E.repeat v (Some w) c b)) t r p =
-    let is' = bound (gather (invariant_of Γ) is) _ r p in
+    let is' = bound (gather (invariant_of σ.types Γ) is) _ r p in
     let a = bound (typed (outside σ) Γ c None) _ r is'.2 in
     let x = bound (typed_arm (looping σ) Γ (ty_of a.0) (Some unit) w b) _ r a.2 in
     fit_named Γ None t s (repeated_by s is'.0 a.0 x.0) r tt x.2
@@ -205,7 +205,7 @@ typed_named σ Γ (E.endless s b) t r p =
     let x = bound (typed (looping σ) Γ b (Some unit)) _ r p in
     endless_named Γ t s [] x.0 r x.2
 typed_named σ Γ (E.attributed s is (E.endless v b)) t r p =
-    let is' = bound (gather (invariant_of Γ) is) _ r p in
+    let is' = bound (gather (invariant_of σ.types Γ) is) _ r p in
     let x = bound (typed (looping σ) Γ b (Some unit)) _ r is'.2 in
     endless_named Γ t s is'.0 x.0 r x.2
 typed_named σ Γ (E.break_off s) t r p = subst (IsNamed Γ None) (same_ok (tree.break_off (asked t) s) r (held σ.in_loop _ (mismatch s) r p).1) tt

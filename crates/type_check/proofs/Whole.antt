@@ -76,30 +76,30 @@ SomeSpeaks (Some c) Γ = ClauseSpeaksOf (length Γ) c.kind c.formula
 same_some : (o p : Option TypedClause) → yes o ≡ Ok p → o ≡ p
 same_some o p q = same_ok _ _ q
 
-kind_speaks : (u : Ty) (Γ : List Variable) (k : ClauseKind) (t : Pterm) → ClauseSpeaksOf (length Γ) k (assertion (heard k (Some u)) Γ t)
-kind_speaks u Γ Requires t = assertion_speaks Γ t
-kind_speaks u Γ Ensures t = assertion_speaks_of_answer u Γ t
+kind_speaks : (ds : List AdtDecl) (u : Ty) (Γ : List Variable) (k : ClauseKind) (t : Pterm) → ClauseSpeaksOf (length Γ) k (assertion ds (heard k (Some u)) Γ t)
+kind_speaks ds u Γ Requires t = assertion_speaks ds Γ t
+kind_speaks ds u Γ Ensures t = assertion_speaks_of_answer ds u Γ t
 
-clause_speaks : (u : Ty) (Γ : List Variable) (s : Span) (n : AttributeNode) (o : Option TypedClause) → clause_by (Some u) Γ s n ≡ Ok o → SomeSpeaks o Γ
-clause_speaks u Γ s (A.Clause clause.Requires t) o p = subst (λ o. SomeSpeaks o Γ) (same_some _ o p) (kind_speaks u Γ Requires t)
-clause_speaks u Γ s (A.Clause clause.Ensures t) o p = subst (λ o. SomeSpeaks o Γ) (same_some _ o p) (kind_speaks u Γ Ensures t)
-clause_speaks u Γ s A.Skipped o p = subst (λ o. SomeSpeaks o Γ) (same_some None o p) tt
-clause_speaks u Γ s n o p = absurd (cc)
+clause_speaks : (ds : List AdtDecl) (u : Ty) (Γ : List Variable) (s : Span) (n : AttributeNode) (o : Option TypedClause) → clause_by ds (Some u) Γ s n ≡ Ok o → SomeSpeaks o Γ
+clause_speaks ds u Γ s (A.Clause clause.Requires t) o p = subst (λ o. SomeSpeaks o Γ) (same_some _ o p) (kind_speaks ds u Γ Requires t)
+clause_speaks ds u Γ s (A.Clause clause.Ensures t) o p = subst (λ o. SomeSpeaks o Γ) (same_some _ o p) (kind_speaks ds u Γ Ensures t)
+clause_speaks ds u Γ s A.Skipped o p = subst (λ o. SomeSpeaks o Γ) (same_some None o p) tt
+clause_speaks ds u Γ s n o p = absurd (cc)
 
-attribute_speaks : (u : Ty) (Γ : List Variable) (a : Attribute) (o : Option TypedClause) → clause_of (Some u) Γ a ≡ Ok o → SomeSpeaks o Γ
+attribute_speaks : (ds : List AdtDecl) (u : Ty) (Γ : List Variable) (a : Attribute) (o : Option TypedClause) → clause_of ds (Some u) Γ a ≡ Ok o → SomeSpeaks o Γ
 unfolding clause_of
-attribute_speaks u Γ a o p = clause_speaks u Γ a.span a.node o p
+attribute_speaks ds u Γ a o p = clause_speaks ds u Γ a.span a.node o p
 
 joined_speak : (Γ : List Variable) (o : Option TypedClause) (rest : List TypedClause) → SomeSpeaks o Γ → ClausesSpeak (length Γ) rest → ClausesSpeak (length Γ) (with_some o rest)
 joined_speak Γ None rest h k = k
 joined_speak Γ (Some c) rest h k = (h, k)
 
-clauses_speak : (u : Ty) (Γ : List Variable) (as' : List Attribute) (cs : List TypedClause) → gather (clause_of (Some u) Γ) as' ≡ Ok cs → ClausesSpeak (length Γ) cs
-clauses_speak u Γ [] cs p = subst (ClausesSpeak (length Γ)) (same_ok _ _ p) tt
-clauses_speak u Γ (a ∷ as') cs p =
-    let o = bound (clause_of (Some u) Γ a) _ cs p in
-    let rest = bound (gather (clause_of (Some u) Γ) as') _ cs o.2 in
-    subst (ClausesSpeak (length Γ)) (same_ok _ _ rest.2) (joined_speak Γ o.0 rest.0 (attribute_speaks u Γ a o.0 o.1) (clauses_speak u Γ as' rest.0 rest.1))
+clauses_speak : (ds : List AdtDecl) (u : Ty) (Γ : List Variable) (as' : List Attribute) (cs : List TypedClause) → gather (clause_of ds (Some u) Γ) as' ≡ Ok cs → ClausesSpeak (length Γ) cs
+clauses_speak ds u Γ [] cs p = subst (ClausesSpeak (length Γ)) (same_ok _ _ p) tt
+clauses_speak ds u Γ (a ∷ as') cs p =
+    let o = bound (clause_of ds (Some u) Γ a) _ cs p in
+    let rest = bound (gather (clause_of ds (Some u) Γ) as') _ cs o.2 in
+    subst (ClausesSpeak (length Γ)) (same_ok _ _ rest.2) (joined_speak Γ o.0 rest.0 (attribute_speaks ds u Γ a o.0 o.1) (clauses_speak ds u Γ as' rest.0 rest.1))
 
 -- ---- functions
 
@@ -130,7 +130,7 @@ module _ (ds : List AdtDecl) where
   function_fits σ own as' f g hs p =
       let Γ = bound (each (param_of ds) f.params) _ g p in
       let t = bound (answer_ty ds f.answer) _ g Γ.2 in
-      let cs = bound (gather (clause_of (Some t.0) Γ.0) as') _ g t.2 in
+      let cs = bound (gather (clause_of ds (Some t.0) Γ.0) as') _ g t.2 in
       let here : Setting = record { types = ds; headings = σ; answer = t.0; in_loop = false } in
       let e = bound (typed_body here Γ.0 (Some t.0) own f.body) _ g cs.2 in
       let params = all_built ds f.params Γ.0 Γ.1 in
@@ -141,7 +141,7 @@ module _ (ds : List AdtDecl) where
       let fits : FunctionFits ds (signatures_at σ) h = record {
         params = params;
         answer = answer;
-        clauses = subst (λ n. ClausesSpeak n cs.0) (lengths Γ.0) (clauses_speak t.0 Γ.0 as' cs.0 cs.1);
+        clauses = subst (λ n. ClausesSpeak n cs.0) (lengths Γ.0) (clauses_speak ds t.0 Γ.0 as' cs.0 cs.1);
         body = s.well;
         of_answer = s.meets;
       } in

@@ -85,18 +85,18 @@ abbrev pub heard : ClauseKind → Option Ty → Option Ty
 heard Requires t = None
 heard Ensures t = t
 
-abbrev pub clause_of_kind : ClauseKind → Option Ty → List Variable → Pterm → TypedClause
-clause_of_kind k t Γ p = record { kind = k; formula = assertion (heard k t) Γ p }
+abbrev pub clause_of_kind : List AdtDecl → ClauseKind → Option Ty → List Variable → Pterm → TypedClause
+clause_of_kind ds k t Γ p = record { kind = k; formula = assertion ds (heard k t) Γ p }
 
 -- before a function `requires` and `ensures` are built, and no other clause; t is the type of the answer
-abbrev pub clause_by : Option Ty → List Variable → Span → AttributeNode → Result (Option TypedClause) SourceError
-clause_by t Γ s (A.Clause clause.Requires p) = Ok (Some (clause_of_kind Requires t Γ p))
-clause_by t Γ s (A.Clause clause.Ensures p) = Ok (Some (clause_of_kind Ensures t Γ p))
-clause_by t Γ s A.Skipped = Ok None
-clause_by t Γ s _ = Err (unbuilt s)
+abbrev pub clause_by : List AdtDecl → Option Ty → List Variable → Span → AttributeNode → Result (Option TypedClause) SourceError
+clause_by ds t Γ s (A.Clause clause.Requires p) = Ok (Some (clause_of_kind ds Requires t Γ p))
+clause_by ds t Γ s (A.Clause clause.Ensures p) = Ok (Some (clause_of_kind ds Ensures t Γ p))
+clause_by ds t Γ s A.Skipped = Ok None
+clause_by ds t Γ s _ = Err (unbuilt s)
 
-unfoldable pub clause_of : Option Ty → List Variable → Attribute → Result (Option TypedClause) SourceError
-clause_of t Γ a = clause_by t Γ a.span a.node
+unfoldable pub clause_of : List AdtDecl → Option Ty → List Variable → Attribute → Result (Option TypedClause) SourceError
+clause_of ds t Γ a = clause_by ds t Γ a.span a.node
 
 -- ---- functions
 
@@ -125,7 +125,7 @@ unfoldable pub typed_function : List AdtDecl → List Heading → Span → List 
 typed_function ds σ own as' f = do
   Γ ← each (param_of ds) f.params
   t ← answer_ty ds f.answer
-  cs ← gather (clause_of (Some t) Γ) as'
+  cs ← gather (clause_of ds (Some t) Γ) as'
   e ← typed_body (record { types = ds; headings = σ; answer = t; in_loop = false }) Γ (Some t) own f.body
   Ok (record { name = f.name.name; span = f.name.span; signature = signature_by Γ t; types_at = types_at f; clauses = cs; body = e })
 

@@ -108,15 +108,15 @@ rule σ Γ (E.choice s (Some p) c d e) t =
 rule σ Γ (E.matching s e as') t = part σ Γ e None λ a. each_arm σ Γ (ty_of a) t tree.no_arms as' λ p. comes (matched t s a p)
 rule σ Γ (E.repeat s None c b) t = part (outside σ) Γ c (Some bool) λ x. part (looping σ) Γ b (Some unit) λ y. comes (fit t s (tree.repeat unit s [] x y))
 -- a loop with its invariants, from the first attribute on
-rule σ Γ (E.attributed s is (E.repeat r None c b)) t = first (gather (invariant_of Γ) is) λ is'. part (outside σ) Γ c (Some bool) λ x. part (looping σ) Γ b (Some unit) λ y. comes (fit t s (tree.repeat unit s is' x y))
+rule σ Γ (E.attributed s is (E.repeat r None c b)) t = first (gather (invariant_of σ.types Γ) is) λ is'. part (outside σ) Γ c (Some bool) λ x. part (looping σ) Γ b (Some unit) λ y. comes (fit t s (tree.repeat unit s is' x y))
 rule σ Γ (E.repeat s (Some p) c b) t = part (outside σ) Γ c None λ a. an_arm (looping σ) Γ (ty_of a) (Some unit) p b λ x. comes (fit t s (repeated_by s [] a x))
 rule σ Γ (E.attributed s is (E.repeat r (Some p) c b)) t =
-    first (gather (invariant_of Γ) is) λ is'. part (outside σ) Γ c None λ a. an_arm (looping σ) Γ (ty_of a) (Some unit) p b λ x. comes (fit t s (repeated_by s is' a x))
+    first (gather (invariant_of σ.types Γ) is) λ is'. part (outside σ) Γ c None λ a. an_arm (looping σ) Γ (ty_of a) (Some unit) p b λ x. comes (fit t s (repeated_by s is' a x))
 rule σ Γ (E.panic s m text) t = comes (panicked t s m)
 rule σ Γ (E.bare_return s) t = comes (bare_return σ.answer t s)
 rule σ Γ (E.return_with s e) t = part σ Γ e (Some σ.answer) λ a. comes (Ok (returned t s a))
 rule σ Γ (E.endless s b) t = part (looping σ) Γ b (Some unit) λ x. comes (endless t s [] x)
-rule σ Γ (E.attributed s is (E.endless r b)) t = first (gather (invariant_of Γ) is) λ is'. part (looping σ) Γ b (Some unit) λ x. comes (endless t s is' x)
+rule σ Γ (E.attributed s is (E.endless r b)) t = first (gather (invariant_of σ.types Γ) is) λ is'. part (looping σ) Γ b (Some unit) λ x. comes (endless t s is' x)
 rule σ Γ (E.break_off s) t = comes (in_a_loop σ.in_loop s (tree.break_off (asked t) s))
 rule σ Γ (E.go_on s) t = comes (in_a_loop σ.in_loop s (tree.go_on (asked t) s))
 rule σ Γ e t = comes (Err (unbuilt (span_of e)))

@@ -2,7 +2,7 @@
 -- 2000): without an expected type an expression gives one, with one it fits it (Rust Reference, "Operator expressions", "Type cast expressions",
 -- "Call expressions", "Tuple expressions", "Tuple indexing expressions", "Field access expressions", "Struct expressions", "Block expressions",
 -- "if expressions", "if let expressions", "match expressions", "Predicate loops", "Predicate pattern loops", "Infinite loops", "break expressions", "continue expressions", "return expressions", "Diverging expressions"). What has no row is not built.
-use Rattle.std.specs.Prelude.{ℕ, suc, ℤ, pos, ◌==◌, ◌++◌, Bool, true, false, List, [], ◌∷◌, length, map, Option, Some, None, Result, Ok, Err, slice_get, if◌then◌else◌}
+use Rattle.std.specs.Prelude.{ℕ, suc, ℤ, ◌==◌, ◌++◌, Bool, true, false, List, [], ◌∷◌, length, map, Option, Some, None, Result, Ok, Err, slice_get, if◌then◌else◌}
 use Rattle.text_core.specs.declared.name.Name.{Name}
 use Rattle.text_core.specs.declared.refusal.Cause.{Cause}
 use Rattle.text_core.specs.declared.refusal.Cause.TheVariants as cause
@@ -16,7 +16,7 @@ use Rattle.logic_term.specs.declared.declaration.AdtDecl.{AdtDecl}
 use Rattle.logic_term.specs.declared.declaration.FieldDecl.{FieldDecl}
 use Rattle.logic_term.specs.declared.declaration.VariantKind.TheVariants.{Named, Numbered, Unit as Alone}
 use Rattle.logic_term.specs.declared.kinds.Ctor.TheVariants.{Tuple, Variant}
-use Rattle.logic_term.specs.Ty.{Ty, Tys, int, bool, tuple, adt, boxed, no_tys, and_ty}
+use Rattle.logic_term.specs.Ty.{Ty, Tys, int, bool, tuple, adt, no_tys, and_ty}
 use Rattle.logic_term.specs.TyView.{tys_of}
 use Rattle.source_trees.specs.declared.path.PathNode.{PathNode}
 use Rattle.source_trees.specs.declared.attribute.Attribute.{Attribute}
@@ -56,9 +56,9 @@ use Rattle.type_check.specs.Terms.{assertion}
 use Rattle.type_check.specs.TypedExpr.{TypedExpr, TypedStmts, TypedExprs, TypedArms}
 use Rattle.type_check.specs.TypedExpr as tree
 use Rattle.type_check.specs.TypedExprView.{ty_of, stmt_of, stmts_of}
-use Rattle.constructors.specs.FieldNames.{numbered}
+pub use Rattle.type_parts.specs.Parts.{field_of, is_boxed, part_if, part_number}
 use Rattle.type_check.specs.Types.{same_ty, is_signed_ty, is_built, are_built}
-use Rattle.type_check.specs.WellTyped.{unit, is_arithmetic, operation_ty, nth_part, struct_fields, field_at, tys_of_exprs}
+use Rattle.type_check.specs.WellTyped.{unit, is_arithmetic, operation_ty, field_at, tys_of_exprs}
 use Rattle.type_check.specs.Written.{name_alone, step_of, written_type}
 
 abbrev pub Typed : Type 0
@@ -203,41 +203,6 @@ unfoldable pub tupled : Option Ty → Span → TypedExprs → Typed
 tupled t s es = fit t s (tree.make (tuple (tys_of_exprs es)) s Tuple es)
 
 -- ---- parts and fields
-
--- a number with a type at its end is that of no part
-abbrev pub number_by : Option IntKind → ℤ → Option ℕ
-number_by None (pos n) = Some n
-number_by _ _ = None
-
-abbrev pub part_number : Number → Option ℕ
-part_number k = number_by k.suffix k.value
-
--- the field of the name from number k on, and its type at these types for the parameters
-abbrev pub field_from : ℕ → Name → Tys → List FieldDecl → Option (ℕ × Ty)
-field_from k x ts [] = None
-field_from k x ts (f ∷ fs) = if f.name.0 == x.0 then Some (k, field_at ts f) else field_from (suc k) x ts fs
-
-abbrev pub with_number : ℕ → Option Ty → Option (ℕ × Ty)
-with_number n None = None
-with_number n (Some t) = Some (n, t)
-
--- the field of the name, in a struct
-abbrev pub field_of : List AdtDecl → Name → Ty → Option (ℕ × Ty)
-field_of ds x (adt d rs ts) = field_from 0 x ts (struct_fields (slice_get ds d.0))
-field_of ds x _ = None
-
--- the part of the number, in a tuple or in a struct whose fields have numbers for names
-abbrev pub part_of : List AdtDecl → Ty → ℕ → Option (ℕ × Ty)
-part_of ds (tuple ts) n = with_number n (nth_part ts n)
-part_of ds t n = field_of ds (numbered n) t
-
-abbrev pub part_if : List AdtDecl → Ty → Option ℕ → Option (ℕ × Ty)
-part_if ds t None = None
-part_if ds t (Some n) = part_of ds t n
-
-abbrev pub is_boxed : Ty → Bool
-is_boxed (boxed t) = true
-is_boxed _ = false
 
 -- the part, where there is one of a built type; so far nothing is looked for behind a box. The spans are the expression's and that of the name or number
 abbrev pub part_by : List AdtDecl → Option Ty → Span → Span → TypedExpr → Option (ℕ × Ty) → Typed
@@ -471,13 +436,13 @@ abbrev pub in_a_loop : Bool → Span → TypedExpr → Typed
 in_a_loop b s e = wanted b s e
 
 -- before a loop invariants are built, and no other clause
-abbrev pub invariant_by : List Variable → Span → AttributeNode → Result (Option Assertion) SourceError
-invariant_by Γ s (A.Clause Invariant p) = Ok (Some (assertion None Γ p))
-invariant_by Γ s A.Skipped = Ok None
-invariant_by Γ s _ = Err (unbuilt s)
+abbrev pub invariant_by : List AdtDecl → List Variable → Span → AttributeNode → Result (Option Assertion) SourceError
+invariant_by ds Γ s (A.Clause Invariant p) = Ok (Some (assertion ds None Γ p))
+invariant_by ds Γ s A.Skipped = Ok None
+invariant_by ds Γ s _ = Err (unbuilt s)
 
-unfoldable pub invariant_of : List Variable → Attribute → Result (Option Assertion) SourceError
-invariant_of Γ a = invariant_by Γ a.span a.node
+unfoldable pub invariant_of : List AdtDecl → List Variable → Attribute → Result (Option Assertion) SourceError
+invariant_of ds Γ a = invariant_by ds Γ a.span a.node
 
 -- ---- expressions
 
@@ -562,7 +527,7 @@ abbrev mutual
     fit t s (tree.repeat unit s [] x y)
   -- a loop with its invariants, from the first attribute on
   typed σ Γ (E.attributed s is (E.repeat r None c b)) t = do
-    is' ← gather (invariant_of Γ) is
+    is' ← gather (invariant_of σ.types Γ) is
     x ← typed (outside σ) Γ c (Some bool)
     y ← typed (looping σ) Γ b (Some unit)
     fit t s (tree.repeat unit s is' x y)
@@ -571,7 +536,7 @@ abbrev mutual
     x ← arm_from (pattern_at σ.types (ty_of a) p) (λ g. typed (looping σ) (in_arm Γ g.1) b (Some unit))
     fit t s (repeated_by s [] a x)
   typed σ Γ (E.attributed s is (E.repeat r (Some p) c b)) t = do
-    is' ← gather (invariant_of Γ) is
+    is' ← gather (invariant_of σ.types Γ) is
     a ← typed (outside σ) Γ c None
     x ← arm_from (pattern_at σ.types (ty_of a) p) (λ g. typed (looping σ) (in_arm Γ g.1) b (Some unit))
     fit t s (repeated_by s is' a x)
@@ -584,7 +549,7 @@ abbrev mutual
     x ← typed (looping σ) Γ b (Some unit)
     endless t s [] x
   typed σ Γ (E.attributed s is (E.endless r b)) t = do
-    is' ← gather (invariant_of Γ) is
+    is' ← gather (invariant_of σ.types Γ) is
     x ← typed (looping σ) Γ b (Some unit)
     endless t s is' x
   typed σ Γ (E.break_off s) t = in_a_loop σ.in_loop s (tree.break_off (asked t) s)

@@ -1,7 +1,7 @@
 -- Typed expressions whose parts fit (Rust Reference, "Operator expressions", "Call expressions", "Tuple expressions", "Tuple indexing expressions", "Field access expressions", "Struct expressions", "Block expressions", "if expressions", "match expressions",
 -- "Predicate loops", "Infinite loops", "return expressions"). The variables in scope are a list of their types, the outermost first.
 use Rattle.std.specs.Option.{option_map}
-use Rattle.std.specs.Prelude.{◌≡◌, ◌⊎◌, ℕ, zero, suc, ◌<◌, Bool, true, false, List, [], ◌∷◌, ◌++◌, length, map, Option, Some, None, slice_get, if◌then◌else◌}
+use Rattle.std.specs.Prelude.{◌≡◌, ◌⊎◌, ℕ, ◌<◌, Bool, true, false, List, [], ◌∷◌, ◌++◌, length, map, Option, Some, None, slice_get, if◌then◌else◌}
 use Rattle.text_core.specs.declared.name.Name.{Name}
 use Rattle.source_kinds.specs.declared.kinds.BinaryOp.{BinaryOp}
 use Rattle.source_kinds.specs.declared.kinds.BinaryOp.TheVariants.{Add, Sub, Mul, Div, Rem, Eq, Ne}
@@ -11,17 +11,17 @@ use Rattle.logic_term.specs.Free.{free}
 use Rattle.source_kinds.specs.Range.{fits, widens}
 use Rattle.logic_term.specs.declared.kinds.Ctor.{Ctor}
 use Rattle.logic_term.specs.declared.declaration.AdtDecl.{AdtDecl}
-use Rattle.logic_term.specs.declared.declaration.FieldDecl.{FieldDecl}
-use Rattle.logic_term.specs.declared.declaration.VariantDecl.{VariantDecl}
 use Rattle.logic_term.specs.declared.kinds.AdtId.{AdtId}
 use Rattle.logic_term.specs.declared.kinds.Ctor.TheVariants.{Tuple, Variant, Closure}
 use Rattle.logic_term.specs.Pattern.{Pat}
-use Rattle.logic_term.specs.Sort.{instance, instances}
+use Rattle.logic_term.specs.Sort.{instances}
+use Rattle.logic_term.specs.Sorted.{sort_at}
 use Rattle.logic_term.specs.Theory.{declared}
 use Rattle.logic_term.specs.Ty.{Ty, Tys, int, bool, tuple, adt, boxed, no_tys, and_ty, unit_ty}
 use Rattle.pat_check.specs.Typed.{IsPat, fields_in}
 use Rattle.pat_types.specs.declared.names.BoundName.{BoundName}
 use Rattle.pat_types.specs.Laws.{AreDistinct, BindsAmong}
+pub use Rattle.type_parts.specs.Parts.{field_at, struct_fields}
 use Rattle.type_check.specs.declared.program.ClauseKind.{ClauseKind}
 use Rattle.type_check.specs.declared.program.ClauseKind.TheVariants.{Requires, Ensures}
 use Rattle.type_check.specs.declared.assertion.Assertion.{Assertion}
@@ -74,27 +74,9 @@ MakesOf ds Tuple ts t = t ≡ tuple ts
 MakesOf ds (Variant d k) ts t = MakesDeclared ds d k ts t
 MakesOf ds (Closure n) ts t = ⊥
 
--- the type of this number among the types, from 0
-abbrev pub nth_part : Tys → ℕ → Option Ty
-nth_part no_tys n = None
-nth_part (and_ty t ts) zero = Some t
-nth_part (and_ty t ts) (suc n) = nth_part ts n
-
--- the fields of a struct
-abbrev pub fields_of_variant : Option VariantDecl → List FieldDecl
-fields_of_variant None = []
-fields_of_variant (Some v) = v.fields
-
-abbrev pub struct_fields : Option AdtDecl → List FieldDecl
-struct_fields None = []
-struct_fields (Some d) = if d.is_struct then fields_of_variant (slice_get d.variants 0) else []
-
-abbrev pub field_at : Tys → FieldDecl → Ty
-field_at ts f = instance ts f.ty
-
 -- the type of part n of a value of the type, a tuple or a struct (Rust Reference, "Tuple indexing expressions", "Field access expressions")
 abbrev pub part_ty : List AdtDecl → Ty → ℕ → Option Ty
-part_ty ds (tuple ts) n = nth_part ts n
+part_ty ds (tuple ts) n = sort_at ts n
 part_ty ds (adt d rs ts) n = option_map (field_at ts) (slice_get (struct_fields (slice_get ds d.0)) n)
 part_ty ds _ n = None
 

@@ -17,7 +17,7 @@ use crate::setting::Setting;
 use crate::typed::TypedExpr;
 use crate::written::answer_ty;
 use constructors::Declared;
-use logic_term::Ty;
+use logic_term::{AdtDecl, Ty};
 use rs_types::AdtTable;
 use source_trees::{
     Attribute, AttributeNode, Body, ClauseKind as WrittenKind, Function, Item, ItemNode, Param,
@@ -31,16 +31,17 @@ use text_core::{Items, NoMemory, PassError, Span};
 /// The clause of this kind, where the function answers a value of this type.
 fn clause_of_kind(
     alloc: Global,
+    types: &[AdtDecl],
     kind: ClauseKind,
     answer: &Option<Ty>,
     scope: &[Variable],
     term: &Pterm,
 ) -> Result<TypedClause, NoMemory>
-    ensures { IfOk result (λ c. c ≡ clause_of_kind kind answer.now scope.now term.now) }
+    ensures { IfOk result (λ c. c ≡ clause_of_kind types.now kind answer.now scope.now term.now) }
 {
     let formula = match kind {
-        ClauseKind::Requires => assertion(alloc, &None, scope, term)?,
-        ClauseKind::Ensures => assertion(alloc, answer, scope, term)?,
+        ClauseKind::Requires => assertion(alloc, types, &None, scope, term)?,
+        ClauseKind::Ensures => assertion(alloc, types, answer, scope, term)?,
     };
     Ok(TypedClause { kind, formula })
 }
@@ -49,11 +50,12 @@ fn clause_of_kind(
 #[tactic(auto, unfolding(crate::specs::Checked::clause_of))]
 fn clause_of(
     alloc: Global,
+    types: &[AdtDecl],
     answer: &Option<Ty>,
     scope: &[Variable],
     attribute: &Attribute,
 ) -> Result<Option<TypedClause>, PassError>
-    ensures { Answers result (clause_of answer.now scope.now attribute.now) }
+    ensures { Answers result (clause_of types.now answer.now scope.now attribute.now) }
 {
     let (kind, term) = match &attribute.node {
         AttributeNode::Clause(WrittenKind::Requires, term) => (ClauseKind::Requires, term),
@@ -64,20 +66,24 @@ fn clause_of(
         | AttributeNode::Law
         | AttributeNode::Derive(_) => return Err(unbuilt(attribute.span)),
     };
-    Ok(Some(clause_of_kind(alloc, kind, answer, scope, term)?))
+    Ok(Some(clause_of_kind(alloc, types, kind, answer, scope, term)?))
 }
 
 fn clauses_of(
     alloc: Global,
+    types: &[AdtDecl],
     answer: &Option<Ty>,
     scope: &[Variable],
     attributes: &[Attribute],
 ) -> Result<Vec<TypedClause>, PassError>
-    ensures { AnswersAs result (gather (clause_of answer.now scope.now) attributes.now) (λ v. v.items) }
+    ensures { AnswersAs result (gather (clause_of types.now answer.now scope.now) attributes.now) (λ v. v.items) }
 {
     let mut clauses = Vec::new(alloc);
     for attribute in attributes {
-        push_some(&mut clauses, clause_of(alloc, answer, scope, attribute)?)?;
+        push_some(
+            &mut clauses,
+            clause_of(alloc, types, answer, scope, attribute)?,
+        )?;
     }
     Ok(clauses)
 }
@@ -150,7 +156,8 @@ fn type_function(
     let answer = answer_ty(alloc, types, &f.answer)?;
     let expected = Some(answer.copy(alloc)?);
     let signature = signature_of(alloc, scope.as_slice(), answer)?;
-    let clauses = clauses_of(alloc, &expected, scope.as_slice(), attributes)?;
+    let decls = types.decls();
+    let clauses = clauses_of(alloc, decls, &expected, scope.as_slice(), attributes)?;
     let setting = Setting {
         types,
         headings,

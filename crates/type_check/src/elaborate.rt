@@ -9,7 +9,7 @@ use crate::lists::push_some;
 use crate::refusal::unbuilt;
 use crate::scope::{Variable, find_variable};
 use logic_elab::{Symbol, TermScope, elaborate_formula};
-use logic_term::Ty;
+use logic_term::{AdtDecl, Ty};
 use source_trees::{Attribute, AttributeNode, ClauseKind, Pterm};
 use std::alloc::Global;
 use text_core::{Name, NoMemory, PassError};
@@ -30,9 +30,10 @@ pub fn answer_name() -> Name
     Name::fresh((1 << 61) + (1 << 60))
 }
 
-/// What the names of a contract's term mean: the variables in scope, and the answer of the type where it may be spoken of.
+/// What the names of a contract's term mean: the variables in scope, the answer of the type where it may be spoken of, and the declared types.
 #[derive(Clone, Copy)]
 struct Spoken<'a> {
+    types: &'a [AdtDecl],
     answer: &'a Option<Ty>,
     variables: &'a [Variable],
 }
@@ -40,7 +41,7 @@ struct Spoken<'a> {
 impl<'a> TermScope for Spoken<'a> {
     ghost use Rattle.type_check.specs.Terms.{spoken};
 
-    ghost scope = { λ s. spoken s.answer.now s.variables.now };
+    ghost scope = { λ s. spoken s.types.now s.answer.now s.variables.now };
 
     fn variable(&self, alloc: Global, name: Name) -> Result<Option<Symbol>, NoMemory> {
         match find_variable(alloc, name, self.variables)? {
@@ -64,18 +65,24 @@ impl<'a> TermScope for Spoken<'a> {
             }
         }
     }
+
+    fn types(&self) -> &[AdtDecl] {
+        self.types
+    }
 }
 
 /// The formula of a clause or of an invariant.
 pub(crate) fn assertion(
     alloc: Global,
+    types: &[AdtDecl],
     answer: &Option<Ty>,
     scope: &[Variable],
     t: &Pterm,
 ) -> Result<Assertion, NoMemory>
-    ensures { IfOk result (λ a. a ≡ assertion answer.now scope.now t.now) }
+    ensures { IfOk result (λ a. a ≡ assertion types.now answer.now scope.now t.now) }
 {
     let spoken = Spoken {
+        types,
         answer,
         variables: scope,
     };
@@ -90,14 +97,15 @@ pub(crate) fn assertion(
 #[tactic(auto, unfolding(crate::specs::Typing::invariant_of))]
 fn invariant_of(
     alloc: Global,
+    types: &[AdtDecl],
     scope: &[Variable],
     attribute: &Attribute,
 ) -> Result<Option<Assertion>, PassError>
-    ensures { Answers result (invariant_of scope.now attribute.now) }
+    ensures { Answers result (invariant_of types.now scope.now attribute.now) }
 {
     match &attribute.node {
         AttributeNode::Clause(ClauseKind::Invariant, term) => {
-            Ok(Some(assertion(alloc, &None, scope, term)?))
+            Ok(Some(assertion(alloc, types, &None, scope, term)?))
         }
         AttributeNode::Skipped => Ok(None),
         AttributeNode::Clause(ClauseKind::Requires | ClauseKind::Ensures | ClauseKind::Variant, _)
@@ -110,14 +118,18 @@ fn invariant_of(
 /// The invariants of the attributes before a loop.
 pub(crate) fn invariants_of(
     alloc: Global,
+    types: &[AdtDecl],
     scope: &[Variable],
     attributes: &[Attribute],
 ) -> Result<Vec<Assertion>, PassError>
-    ensures { AnswersAs result (gather (invariant_of scope.now) attributes.now) (λ v. v.items) }
+    ensures { AnswersAs result (gather (invariant_of types.now scope.now) attributes.now) (λ v. v.items) }
 {
     let mut invariants = Vec::new(alloc);
     for attribute in attributes {
-        push_some(&mut invariants, invariant_of(alloc, scope, attribute)?)?;
+        push_some(
+            &mut invariants,
+            invariant_of(alloc, types, scope, attribute)?,
+        )?;
     }
     Ok(invariants)
 }

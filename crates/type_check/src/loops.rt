@@ -34,7 +34,8 @@ pub(crate) fn type_while(
     ensures answers { Answers result (typed (setting_of setting.now) scope.old.items (E.attributed whole attributes.now (E.repeat whole None condition.now body.now)) expected.now) }
     ensures kept { OnOk result (scope.new.items ≡ scope.old.items) }
 {
-    let invariants = invariants_of(alloc, scope.as_slice(), attributes)?;
+    let types = setting.types.decls();
+    let invariants = invariants_of(alloc, types, scope.as_slice(), attributes)?;
     let outside = setting.within(false);
     let condition = type_expr(alloc, &outside, scope, condition, &Some(Ty::bool()))?;
     let inside = setting.within(true);
@@ -58,7 +59,8 @@ pub(crate) fn type_while_by(
     ensures answers { Answers result (typed (setting_of setting.now) scope.old.items (E.attributed whole attributes.now (E.repeat whole (Some pattern.now) value.now body.now)) expected.now) }
     ensures kept { OnOk result (scope.new.items ≡ scope.old.items) }
 {
-    let invariants = invariants_of(alloc, scope.as_slice(), attributes)?;
+    let types = setting.types.decls();
+    let invariants = invariants_of(alloc, types, scope.as_slice(), attributes)?;
     let outside = setting.within(false);
     let value = type_expr(alloc, &outside, scope, value, &None)?;
     let inside = setting.within(true);
@@ -82,7 +84,8 @@ pub(crate) fn type_loop(
     ensures answers { Answers result (typed (setting_of setting.now) scope.old.items (E.attributed whole attributes.now (E.endless whole body.now)) expected.now) }
     ensures kept { OnOk result (scope.new.items ≡ scope.old.items) }
 {
-    let invariants = invariants_of(alloc, scope.as_slice(), attributes)?;
+    let types = setting.types.decls();
+    let invariants = invariants_of(alloc, types, scope.as_slice(), attributes)?;
     let inside = setting.within(true);
     let body = type_expr(alloc, &inside, scope, body, &Some(Ty::unit(alloc)))?;
     endless(alloc, expected, whole, invariants, body)

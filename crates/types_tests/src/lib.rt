@@ -1,4 +1,4 @@
-//! Tests of the table of declared types, of which types are `Copy`, of assignments, of what leaves, of `break` and `continue`, of tuples, of structs in functions, of casts, of `match`, `if let` and `while let`, and of what does not run yet.
+//! Tests of the table of declared types, of which types are `Copy`, of assignments, of what leaves, of `break` and `continue`, of tuples, of structs in functions, of fields in terms, of casts, of `match`, `if let` and `while let`, and of what does not run yet.
 #![tactic(auto)]
 
 #[cfg(test)]
@@ -15,6 +15,8 @@ mod closing;
 mod copying;
 #[cfg(test)]
 mod declaring;
+#[cfg(test)]
+mod field_terms;
 #[cfg(test)]
 mod leaving;
 #[cfg(test)]

@@ -5,4 +5,4 @@ use Rattle.type_check.proofs.PartByPart.{gather_left}
 use Rattle.type_check.proofs.checking.clauses_of.Given as goal
 
 abbrev pub invariant-loop-attribute : goal.invariant-loop-attribute
-invariant-loop-attribute l = gather (clause_of l.answer l.scope) l.attributes ≡ gather_left (clause_of l.answer l.scope) (drop l.attribute-index l.attributes) l.clauses.items
+invariant-loop-attribute l = gather (clause_of l.types l.answer l.scope) l.attributes ≡ gather_left (clause_of l.types l.answer l.scope) (drop l.attribute-index l.attributes) l.clauses.items

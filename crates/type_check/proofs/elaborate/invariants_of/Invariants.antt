@@ -5,4 +5,4 @@ use Rattle.type_check.proofs.PartByPart.{gather_left}
 use Rattle.type_check.proofs.elaborate.invariants_of.Given as goal
 
 abbrev pub invariant-loop-attribute : goal.invariant-loop-attribute
-invariant-loop-attribute l = gather (invariant_of l.scope) l.attributes ≡ gather_left (invariant_of l.scope) (drop l.attribute-index l.attributes) l.invariants.items
+invariant-loop-attribute l = gather (invariant_of l.types l.scope) l.attributes ≡ gather_left (invariant_of l.types l.scope) (drop l.attribute-index l.attributes) l.invariants.items

@@ -2,9 +2,9 @@
 use Rattle.std.proofs.Common.{◌≡◌, ◌∙◌, List, ap, sym}
 use Rattle.logic_term.specs.Ty.{Ty, tuple}
 use Rattle.logic_term.specs.TyView.{ty_of, tys_of}
-use Rattle.type_check.specs.Typing.{part_of}
-use Rattle.type_check.proofs.TupleTypes.{tuple_part}
-use Rattle.type_check.proofs.selecting.part_of.Goals as goal
+use Rattle.type_parts.specs.Parts.{part_of}
+use Rattle.type_parts.proofs.Numbered.{tuple_part}
+use Rattle.type_parts.proofs.finding.part_at.Goals as goal
 
 pub returns-in_ok-found-in-Tuple : goal.returns-in_ok-found-in-Tuple
 returns-in_ok-found-in-Tuple c =
