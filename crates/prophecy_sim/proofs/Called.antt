@@ -212,4 +212,4 @@ module _ {K : Type 0} (s : Setup K) (f : FunctionOf s) (ρ₀ : Env) (fr : Frame
         let shows : AllShow takes.trees values = took_all_show b ρ param_types have can agrees takes.took in
         subst (Quiet Fine) (sym (call-row s.code now takes.after at p target types os l takes.trees callee.number callee.body takes.yields found.1 callee.is_body))
         (continues.calls takes.after takes.stay takes.elsewhere
-            (calls_fine takes.after takes.trees more takes.held (all_fit (bodies s) (own s callee).simple.owns (declarations s) s.declares (own s callee).simple.fields (owned_params s callee) takes.typed) (took_all_agree b ρ agrees takes.took) shows))
+        (calls_fine takes.after takes.trees more takes.held (all_fit (bodies s) (own s callee).simple.owns (declarations s) s.declares (own s callee).simple.fields (owned_params s callee) takes.typed) (took_all_agree b ρ agrees takes.took) shows))

@@ -9,4 +9,4 @@ returns-clause-words c = IfOk-at_ok _ c.in_ok-collect.was (map_from_collect _ c.
 
 pub returns-clause-count : goal.returns-clause-count
 returns-clause-count c = few_words c.args.at c.in_ok-collect.field-0.items c.args.text.now
-        (IfOk-at_ok _ c.in_ok-collect.was (map_from_collect _ c.collect.ensures.ran (YieldsList-from_str_split c.args.at c.args.text.now c.requires c.split.ensures.text c.split.ensures.has_more c.split.ensures.pattern)))
+    (IfOk-at_ok _ c.in_ok-collect.was (map_from_collect _ c.collect.ensures.ran (YieldsList-from_str_split c.args.at c.args.text.now c.requires c.split.ensures.text c.split.ensures.has_more c.split.ensures.pattern)))

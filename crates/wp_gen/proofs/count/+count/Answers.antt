@@ -30,9 +30,10 @@ along-returns t c =
     (ap (among c.args.to) (sym c.as_slice.ensures) ∙ sym c.among.ensures ∙ c.if-among.false) c.in_ok-left.ensures c.from_block.ensures
 
 pub along_each-along-requires : goal.along_each-along-requires
-along_each-along-requires t c =
-    (omega (arith, c.decreases),
-        (c.requires.can, (c.requires.here, c.requires.edges (item c.args.labels.now c.loop-to.to-index) (item_among c.args.labels.now c.loop-to.to-index (item c.args.labels.now c.loop-to.to-index) c.loop-to-test.true (item_is c.args.labels.now c.loop-to.to-index c.loop-to-test.true)))))
+along_each-along-requires t c = (
+  omega (arith, c.decreases),
+  (c.requires.can, (c.requires.here, c.requires.edges (item c.args.labels.now c.loop-to.to-index) (item_among c.args.labels.now c.loop-to.to-index (item c.args.labels.now c.loop-to.to-index) c.loop-to-test.true (item_is c.args.labels.now c.loop-to.to-index c.loop-to-test.true)))),
+)
 
 pub along_each-loop-to-init : goal.along_each-loop-to-init
 along_each-loop-to-init t c = along_none (setting c.args.walk.now) c.args.from c.args.room
@@ -45,7 +46,7 @@ along_each-returns-in_err-left t c =
 pub along_each-loop-to-preserved : goal.along_each-loop-to-preserved
 along_each-loop-to-preserved t c =
     along_next (setting c.args.walk.now) c.args.from c.args.labels.now c.loop-to.to-index (item c.args.labels.now c.loop-to.to-index) c.args.room c.loop-to.left
-        (Some c.in_ok-left.left) c.loop-to-test.true (item_is c.args.labels.now c.loop-to.to-index c.loop-to-test.true) c.loop-to.invariant c.in_ok-left.ensures
+    (Some c.in_ok-left.left) c.loop-to-test.true (item_is c.args.labels.now c.loop-to.to-index c.loop-to-test.true) c.loop-to.invariant c.in_ok-left.ensures
 
 pub along_each-returns : goal.along_each-returns
 along_each-returns t c = along_all (setting c.args.walk.now) c.args.from c.args.labels.now c.loop-to.to-index c.args.room (Some c.loop-to.left) c.loop-to-test.false c.loop-to.invariant

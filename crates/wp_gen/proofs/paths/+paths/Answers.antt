@@ -26,9 +26,10 @@ along-returns t c =
     c.from_block.ensures
 
 pub along_each-along-requires : goal.along_each-along-requires
-along_each-along-requires t c =
-    (omega (arith, c.decreases),
-        (c.requires.laid_out, (c.requires.here, c.requires.edges (item c.args.labels.now c.loop-to.to-index) (item_among c.args.labels.now c.loop-to.to-index (item c.args.labels.now c.loop-to.to-index) c.loop-to-test.true (item_is c.args.labels.now c.loop-to.to-index c.loop-to-test.true)))))
+along_each-along-requires t c = (
+  omega (arith, c.decreases),
+  (c.requires.laid_out, (c.requires.here, c.requires.edges (item c.args.labels.now c.loop-to.to-index) (item_among c.args.labels.now c.loop-to.to-index (item c.args.labels.now c.loop-to.to-index) c.loop-to-test.true (item_is c.args.labels.now c.loop-to.to-index c.loop-to-test.true)))),
+)
 
 pub along_each-returns-in_err-counted : goal.along_each-returns-in_err-counted
 along_each-returns-in_err-counted t c =
@@ -36,7 +37,7 @@ along_each-returns-in_err-counted t c =
     let sum : c.loop-to.counted + left ≡ c.args.room = omega (arith, c.loop-to.invariant.0) in
     rw c.from_residual.ensures
     (each_too_many c.args.body.now c.args.label c.args.labels.now c.loop-to.to-index (item c.args.labels.now c.loop-to.to-index) c.args.room c.loop-to.counted left c.loop-to-test.true
-        (item_is c.args.labels.now c.loop-to.to-index c.loop-to-test.true) sum c.loop-to.invariant.1 c.in_err-counted.ensures)
+    (item_is c.args.labels.now c.loop-to.to-index c.loop-to-test.true) sum c.loop-to.invariant.1 c.in_err-counted.ensures)
 
 pub along_each-loop-to-preserved : goal.along_each-loop-to-preserved
 along_each-loop-to-preserved t c = (
