@@ -23,7 +23,8 @@ use Rattle.proof_text.specs.declared.rule_words.TermLine.{TermLine}
 use Rattle.proof_text.specs.declared.rule_words.TermLine.TheVariants.{Rule, Division, Instance}
 use Rattle.proof_text.specs.ProofTextWords.{◌>>=◌, Each, label_of, two_texts, label_and_texts, text_and_names, name_and_names, lists_of, joined}
 use Rattle.proof_text.specs.ProofTextRules.{rewriting_in, place_in, lists_behind, term_word, term_line_of}
-use Rattle.proof_text.specs.ProofTextLines.{head_of, rest_of, words_of, text_at, case_in, name_listed, name_in_case, names_in_induct, multiples_in, word_of, SpellsRest, SpellsParts, SpellsStep, texts_by, terms_behind, NamesInTerm, NamesInRule, NamesInTerms, NamesInTwo, NamesByLine, NamesOfParts, NamesTexts}
+use Rattle.proof_text.specs.ProofTextLines.{head_of, rest_of, words_of, text_at, case_in, name_listed, name_in_case, names_in_induct, multiples_in, word_of, SpellsRest, SpellsParts, SpellsStep}
+use Rattle.proof_text.specs.ProofTextLines.{texts_by, terms_behind, NamesInTerm, NamesInRule, NamesInTerms, NamesInTwo, NamesByLine, NamesOfParts, NamesTexts}
 use Rattle.proof_text.specs.ProofTextFile.{is_plain_step, is_term, is_term_rest, is_rule_rest, are_terms, are_all_terms, is_step_by, is_step, step, line_if, line_by_head, line_of, rule_step_of}
 use Rattle.proof_text.specs.ProofTextLaws.{AlikeStep}
 use Rattle.proof_text.proofs.LineLaw.{is_plain, text_line}
