@@ -20,4 +20,6 @@ mod steps;
 #[cfg(test)]
 mod terms;
 #[cfg(test)]
+mod variant_rows;
+#[cfg(test)]
 mod written;

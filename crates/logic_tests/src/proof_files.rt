@@ -4,7 +4,7 @@ use proof_text::{Proof, ProofFile, ProofTextError, read_proofs};
 use std::alloc::Global;
 use std::process::Abort;
 use std::test::Fail;
-use text_core::{Name, Names};
+use text_core::{Items, Name, Names};
 
 const TWO: &str = "creusot-proofs 1
 proof 1 inc
@@ -267,7 +267,7 @@ fn lines_but_comments_are_utf_8(rt: HostRuntime) {
 }
 
 /// Words of rules with another rest than theirs, and words of no step.
-const BAD_RULES: [&str; 103] = [
+const BAD_RULES: [&str; 142] = [
     "refl 1.1",
     "true ",
     "left 1.1",
@@ -372,9 +372,49 @@ const BAD_RULES: [&str; 103] = [
     "exists",
     "exists  x",
     "eta ",
+    // No names and bars with one space before each behind a colon with one space before it.
+    "on x :a",
+    "on x: a",
+    "on x  : a",
+    "on x : ",
+    "on x : a ",
+    "on x :  a",
+    "on x : a  b",
+    "on x : a|b",
+    "on x : a || b",
+    "on x : a, b",
+    "on x : 1",
+    "on x : fn",
+    "on x : _",
+    "on x : a : b",
+    "on x ; a",
+    "on : a",
+    "on  : a",
+    "on z < : a",
+    "cut x : a",
+    "exists x : a | b",
+    "induct",
+    "induct ",
+    "induct x",
+    "induct x ",
+    "induct x:",
+    "induct x: a",
+    "induct x :a",
+    "induct x : a ",
+    "induct x : a  b",
+    "induct  x : a",
+    "induct x  : a",
+    "induct x y : a",
+    "induct : a",
+    "induct  : a",
+    "induct fn : a",
+    "induct x@ : a",
+    "induct (x) : a",
+    "induct x : a : b",
+    "induct x : 5",
 ];
 
-const RULES: [&str; 39] = [
+const RULES: [&str; 50] = [
     "refl",
     "true",
     "left",
@@ -414,7 +454,78 @@ const RULES: [&str; 39] = [
     "exists x@ + 1",
     "exists k",
     "eta x",
+    "on x :",
+    "on x : |",
+    "on x : a b | c",
+    "on x : | | a a",
+    "on f(x).0 + 1 : a |",
+    "on x::f(y) : a",
+    "on (forall<v : i32> v == v)",
+    "on (forall<v : i32> v == v) : a",
+    "induct x :",
+    "induct x : a b | c",
+    "induct _1 : | x |",
 ];
+
+const LISTS: &str = "creusot-proofs 1
+proof 1 x
+on x : a b | | c
+on a :
+induct y : | x z
+end
+";
+
+/// The lists of names of a step by the variants of an enum.
+fn lists_in(step: Option<&Step>) -> Option<&Items<Items<Name>>> {
+    match step? {
+        Step::ByVariants(_, lists) => Some(lists),
+        Step::Induct(_, lists) => Some(lists),
+        _ => None,
+    }
+}
+
+/// How many lists the step has; 0 where it has none.
+fn count_of_lists(step: Option<&Step>) -> usize {
+    match lists_in(step) {
+        Some(lists) => lists.len(),
+        None => 0,
+    }
+}
+
+/// Whether the list at this place of the step has these names.
+fn list_is(step: Option<&Step>, at: usize, want: &[Name]) -> bool {
+    let Some(lists) = lists_in(step) else {
+        return false;
+    };
+    match lists.get(at) {
+        Some(list) => list.as_slice() == want,
+        None => false,
+    }
+}
+
+fn is_induct(step: Option<&Step>, name: Name) -> bool {
+    match step {
+        Some(Step::Induct(of, _)) => *of == name,
+        _ => false,
+    }
+}
+
+#[test]
+fn names_between_bars(rt: HostRuntime) -> Result<(), Fail> {
+    let mut names = Names::new(rt.alloc());
+    let file = read_proofs(rt.alloc(), LISTS.as_bytes(), &mut names)?;
+    let first = step_of(&file, 0, 0);
+    assert!(rt; count_of_lists(first) == 3);
+    assert!(rt; list_is(first, 0, &[Name(28), Name(29)]));
+    assert!(rt; list_is(first, 1, &[]));
+    assert!(rt; list_is(first, 2, &[Name(30)]));
+    let second = step_of(&file, 0, 1);
+    assert!(rt; count_of_lists(second) == 1 && list_is(second, 0, &[]));
+    let third = step_of(&file, 0, 2);
+    assert!(rt; is_induct(third, Name(31)) && count_of_lists(third) == 2);
+    assert!(rt; list_is(third, 0, &[]) && list_is(third, 1, &[Name(27), Name(32)]));
+    Ok(())
+}
 
 /// The first bad line of a file in which this is the second step.
 fn bad_line_of_step(alloc: Global, step: &str) -> Result<u32, Fail> {

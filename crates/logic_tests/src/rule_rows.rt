@@ -40,6 +40,16 @@ pub(crate) fn closes(
 
 /// What the steps of the text make of the goal of the text.
 fn outcome(alloc: Global, goal: &str, steps: &str) -> Result<Result<bool, StepError>, Fail> {
+    outcome_in(alloc, &Tables::new(alloc), goal, steps)
+}
+
+/// The same in a program of these tables.
+pub(crate) fn outcome_in(
+    alloc: Global,
+    tables: &Tables,
+    goal: &str,
+    steps: &str,
+) -> Result<Result<bool, StepError>, Fail> {
     let file = file_of(alloc, steps)?;
     let proof = file.proofs.get(0).ok_or("no proof")?;
     let steps = proof.steps.as_slice();
@@ -47,8 +57,7 @@ fn outcome(alloc: Global, goal: &str, steps: &str) -> Result<Result<bool, StepEr
         return Err("many steps".into());
     }
     let obligation = obligation(alloc, term(alloc, goal.as_bytes())?)?;
-    let tables = Tables::new(alloc);
-    Ok(closes(alloc, &obligation, &tables, steps))
+    Ok(closes(alloc, &obligation, tables, steps))
 }
 
 /// The number of the step that no rule fits; 0 where there is none.

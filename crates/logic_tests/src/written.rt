@@ -1,5 +1,5 @@
 //! Terms of short texts, an operator standing before its parts.
-use logic_term::{AdtId, Ctor, Term, Ty, TyNode};
+use logic_term::{AdtId, CompoundTy, Ctor, Term, Ty, TyNode};
 use source_kinds::{ArithOp, IntKind};
 use std::alloc::Global;
 use text_core::{Name, NoMemory};
@@ -43,7 +43,8 @@ fn variant(alloc: Global, number: u32, parts: Vec<Term>) -> Result<Term, NoMemor
     Term::made(alloc, Ctor::Variant(AdtId(0), number), parts)
 }
 
-/// What stands alone: a name, a number, `i` for 5 as an `i32`, `T` and `F`, `u` for `()`, and `n` for variant 2 without parts.
+/// What stands alone: a name, a number, `i` for 5 as an `i32`, `T` and `F`, `u` for `()`, and without parts `n` for variant 2, `N` for variant 0
+/// of the declared type 1, and `o` for that of type 2.
 fn leaf(alloc: Global, letter: u8) -> Result<Option<Term>, NoMemory> {
     if let Some(name) = variable(letter) {
         return Ok(Some(Term::var(alloc, name)?));
@@ -57,6 +58,8 @@ fn leaf(alloc: Global, letter: u8) -> Result<Option<Term>, NoMemory> {
         b'F' => Ok(Some(Term::truth(alloc, false)?)),
         b'u' => Ok(Some(Term::unit(alloc)?)),
         b'n' => Ok(Some(variant(alloc, 2, Vec::new(alloc))?)),
+        b'N' => Ok(Some(Term::made(alloc, Ctor::Variant(AdtId(1), 0), Vec::new(alloc))?)),
+        b'o' => Ok(Some(Term::made(alloc, Ctor::Variant(AdtId(2), 0), Vec::new(alloc))?)),
         _ => Ok(None),
     }
 }
@@ -71,14 +74,27 @@ fn pairs(alloc: Global) -> Result<Ty, NoMemory> {
     })
 }
 
-/// `X` and `Y`: for each `i32`; `B`: for each truth value `x`; `P`: for each pair `x` of integers; `Z` and `W`: for each integer. `G`: for some
-/// `i32`, which is `x`; `E`: for some integer, which is `z`.
+/// The values of the declared type at `i32`.
+fn values(alloc: Global, number: u32) -> Result<Ty, NoMemory> {
+    let mut types = Vec::with_capacity(alloc, 1)?;
+    types.push(Ty::int(IntKind::I32))?;
+    Ty::compound(
+        alloc,
+        CompoundTy::Adt(AdtId(number), Vec::new(alloc), types),
+    )
+}
+
+/// `X` and `Y`: for each `i32`; `B`: for each truth value `x`; `P`: for each pair `x` of integers; `Z` and `W`: for each integer; `O`, `S` and
+/// `U`: for each value `y` of the declared types 0, 1 and 2. `G`: for some `i32`, which is `x`; `E`: for some integer, which is `z`.
 fn quantified(alloc: Global, letter: u8, body: Term) -> Result<Term, NoMemory> {
     match letter {
         b'X' => Term::forall(alloc, X, Ty::int(IntKind::I32), body),
         b'Y' => Term::forall(alloc, Y, Ty::int(IntKind::I32), body),
         b'B' => Term::forall(alloc, X, Ty::bool(), body),
         b'P' => Term::forall(alloc, X, pairs(alloc)?, body),
+        b'O' => Term::forall(alloc, Y, values(alloc, 0)?, body),
+        b'S' => Term::forall(alloc, Y, values(alloc, 1)?, body),
+        b'U' => Term::forall(alloc, Y, values(alloc, 2)?, body),
         b'G' => Term::exists(alloc, X, Ty::int(IntKind::I32), body),
         b'E' => Term::exists(alloc, Z, Ty::math_int(), body),
         b'Z' => Term::forall(alloc, Z, Ty::math_int(), body),
@@ -127,7 +143,16 @@ fn pair(alloc: Global, a: Term, b: Term) -> Result<Term, NoMemory> {
     Term::made(alloc, Ctor::Tuple, parts)
 }
 
-/// The operators of arithmetic, `<`, `l` for at most, `=`, `&`, `|`, `>` for an implication, and `p` for a tuple of two.
+/// Variant 1 of the declared type 1, of both.
+fn link(alloc: Global, a: Term, b: Term) -> Result<Term, NoMemory> {
+    let mut parts = Vec::with_capacity(alloc, 2)?;
+    parts.push(a)?;
+    parts.push(b)?;
+    Term::made(alloc, Ctor::Variant(AdtId(1), 1), parts)
+}
+
+/// The operators of arithmetic, `<`, `l` for at most, `=`, `&`, `|`, `>` for an implication, `p` for a tuple of two, and `C` for variant 1 of
+/// the declared type 1.
 fn binary(alloc: Global, letter: u8, a: Term, b: Term) -> Result<Term, NoMemory> {
     if let Some(op) = arithmetic(letter) {
         return Term::calculate(alloc, op, a, b);
@@ -140,6 +165,7 @@ fn binary(alloc: Global, letter: u8, a: Term, b: Term) -> Result<Term, NoMemory>
         b'|' => Term::or(alloc, a, b),
         b'>' => Term::implies(alloc, a, b),
         b'p' => pair(alloc, a, b),
+        b'C' => link(alloc, a, b),
         _ => Err(NoMemory),
     }
 }
@@ -147,7 +173,7 @@ fn binary(alloc: Global, letter: u8, a: Term, b: Term) -> Result<Term, NoMemory>
 fn is_binary(letter: u8) -> bool {
     matches!(
         letter,
-        b'+' | b'-' | b'*' | b'/' | b'%' | b'<' | b'l' | b'=' | b'&' | b'|' | b'>' | b'p'
+        b'+' | b'-' | b'*' | b'/' | b'%' | b'<' | b'l' | b'=' | b'&' | b'|' | b'>' | b'p' | b'C'
     )
 }
 

@@ -13,7 +13,6 @@ use Rattle.proof_text.specs.declared.proof.NumberedStep.{NumberedStep}
 use Rattle.proof_text.specs.declared.proof.Proof.{Proof}
 use Rattle.proof_text.specs.declared.reader.Stage.{Stage}
 use Rattle.proof_text.specs.declared.reader.Stage.TheVariants as stages
-use Rattle.proof_text.specs.ProofTextWords.{Each}
 use Rattle.proof_text.specs.ProofTextLines.{text_at}
 use Rattle.proof_text.specs.ProofTextFile.{StepText, ProofText, IsStepOf, IsProofOf, State, start, between, within}
 use Rattle.proof_text.specs.ProofTextReads.{IsStageOf}

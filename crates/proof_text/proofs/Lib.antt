@@ -6,6 +6,7 @@ pub mod FormRuns
 pub mod KeptNames
 pub mod LineLaw
 pub mod LineLemmas
+pub mod ListLemmas
 pub mod NameOrder
 pub mod NumeralLemmas
 pub mod RuleLaw

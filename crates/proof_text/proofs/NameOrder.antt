@@ -13,10 +13,10 @@ use Rattle.proof_text.specs.declared.fault.ProofTextError.{ProofTextError}
 use Rattle.proof_kernel.specs.declared.step.TermRule.{TermRule}
 use Rattle.proof_text.specs.declared.rule_words.TermLine.TheVariants.{Rule, Division, Instance}
 use Rattle.source_words.specs.Words.{GivesNames, identifiers_in}
-use Rattle.proof_text.specs.ProofTextRules.{term_line_of}
+use Rattle.proof_text.specs.ProofTextRules.{lists_behind, term_line_of}
 use Rattle.proof_text.specs.ProofTextReads.{GivesTexts}
-use Rattle.proof_text.specs.ProofTextWords.{two_texts}
-use Rattle.proof_text.specs.ProofTextLines.{rest_of, texts_by, terms_behind, NamesInTerms, NamesInTwo, NamesByLine, NamesOfParts, NamesTexts, IsHeading, IsEnd}
+use Rattle.proof_text.specs.ProofTextWords.{two_texts, lists_of, joined}
+use Rattle.proof_text.specs.ProofTextLines.{rest_of, texts_by, terms_behind, NamesInRule, NamesInTerms, NamesInTwo, NamesByLine, NamesOfParts, NamesTexts, IsHeading, IsEnd}
 use Rattle.proof_text.specs.ProofTextFile.{is_passed}
 use Rattle.proof_text.specs.ProofFileForm.{IsComment, LinesName, HasNamesOf}
 use Rattle.proof_text.proofs.LineLaw.{more_before, not_empty, hash_is}
@@ -95,12 +95,24 @@ pub gives_plain : (head : List ℕ) (rest : Option (List ℕ)) (old new : List (
 unfolding NamesOfParts
 gives_plain head rest old new e h = (texts_by head rest, subst (λ o. NamesByLine o head rest (texts_by head rest)) e refl, h)
 
-pub gives_term : (head rest : List ℕ) (own : Option (List ℕ)) (rule : TermRule) (old new : List (List ℕ)) → Some (Rule rule) ≡ term_line_of head → own ≡ Some rest → GivesNames old rest new → GivesTexts (NamesOfParts head own) old new
+pub gives_rule : (head rest : List ℕ) (own : Option (List ℕ)) (rule : TermRule) (old new : List (List ℕ)) → Some (Rule rule) ≡ term_line_of head → own ≡ Some rest → GivesTexts (NamesInRule (lists_behind rule rest) (Some rest)) old new →
+    GivesTexts (NamesOfParts head own) old new
 unfolding NamesOfParts
-gives_term head rest own rule old new e is g =
+gives_rule head rest own rule old new e is g = (g.0, subst (λ r. NamesByLine (term_line_of head) head r g.0) (sym is) (subst (λ o. NamesByLine o head (Some rest) g.0) e g.1), g.2)
+
+-- what a term alone names
+pub gives_term : (old new : List (List ℕ)) (rest : List ℕ) (o : Option (List ℕ × List (List ℕ))) → o ≡ None → GivesNames old rest new → GivesTexts (NamesInRule o (Some rest)) old new
+gives_term old new rest o none g =
     let texts : List (List ℕ) = identifiers_in rest g.tokens in
-    let names : NamesByLine (Some (Rule rule)) head (Some rest) texts = record { tokens = g.tokens; are_tokens = g.are_tokens; are = refl } in
-    (texts, subst (λ r. NamesByLine (term_line_of head) head r texts) (sym is) (subst (λ o. NamesByLine o head (Some rest) texts) e names), g.is)
+    let names : NamesInRule None (Some rest) texts = record { tokens = g.tokens; are_tokens = g.are_tokens; are = refl } in
+    (texts, subst (λ r. NamesInRule r (Some rest) texts) (sym none) names, g.is)
+
+-- and one before lists of names
+pub gives_lists : (old mid new : List (List ℕ)) (text : List ℕ) (words : List (List ℕ)) (rest : Option (List ℕ)) → GivesNames old text mid → new ≡ with_names mid (joined (lists_of words)) → GivesTexts (NamesInRule (Some (text, words)) rest) old new
+gives_lists old mid new text words rest g more =
+    let own : List (List ℕ) = identifiers_in text g.tokens in
+    let others : List (List ℕ) = joined (lists_of words) in
+    (own ++ others, (own, record { tokens = g.tokens; are_tokens = g.are_tokens; are = refl }, refl), more ∙ (ap (λ (ts : List (List ℕ)). with_names ts others) g.is ∙ sym (tables_append old own others)))
 
 pub gives_two : (head rest : List ℕ) (own : Option (List ℕ)) (old new : List (List ℕ)) → Some Division ≡ term_line_of head → own ≡ Some rest → GivesTexts (NamesInTwo (two_texts rest)) old new → GivesTexts (NamesOfParts head own) old new
 unfolding NamesOfParts

@@ -110,7 +110,7 @@ multiplier_refused w digits d h = refused_by w digits _ refl (by_first w digits 
 abbrev pair_of : List ℕ → List ℕ → List ℕ × List ℕ
 pair_of a b = (a, b)
 
-pairs : (a b u v : List ℕ) → a ≡ u → b ≡ v → pair_of a b ≡ pair_of u v
+pub pairs : (a b u v : List ℕ) → a ≡ u → b ≡ v → pair_of a b ≡ pair_of u v
 pairs a b u v e f = ap (λ x. pair_of x b) e ∙ ap (pair_of u) f
 
 pub cut_is : (c : ℕ) (bs : List ℕ) (r : Option (Bor (List ℕ) × Bor (List ℕ))) →

@@ -1,5 +1,5 @@
 -- What the line of a step spells, step by step.
-use Rattle.std.proofs.Common.{◌≡◌, ℕ, Bool, true, false, ◌&&◌, cond, ◌⊎◌, inl, inr, subst, List, [], ◌∷◌, ◌++◌, map, Option, Some, None, refl, sym, ◌∙◌, ap, ap₂, codes}
+use Rattle.std.proofs.Common.{◌≡◌, ℕ, Bool, true, false, ◌&&◌, cond, subst, List, [], ◌∷◌, ◌++◌, map, Option, Some, None, refl, sym, ◌∙◌, ap, ap₂, codes}
 use Rattle.std.specs.Prelude.{is_some, is_none}
 use Rattle.std.specs.List.{list_all}
 use Rattle.std.specs.Option.{option_map}
@@ -13,18 +13,19 @@ use Rattle.proof_kernel.specs.declared.step.TermRule.TheVariants.{Cut, On, Range
 use Rattle.proof_kernel.specs.declared.step.Step.TheVariants.{Intro, Hyp, Split, Lin, OnGoal, OnHypothesis, OnTwo, Rewrite, Decide, OnTerm, Divide, Instantiate, Unpack, ByVariants, Induct}
 use Rattle.logic_term.specs.declared.kinds.Label2.{Label2}
 use Rattle.source_trees.specs.Pterm.{Pterm}
-use Rattle.term_texts.specs.TermTexts.{SpellsWholeTerm, IsTermText, NamesOfTerm}
-use Rattle.term_texts.proofs.TermLaw.{is_term_text, spelled_there, names_there as naming_there, one_naming, kept_term, one_term}
+use Rattle.term_texts.specs.TermTexts.{SpellsWholeTerm, IsTermText}
+use Rattle.term_texts.proofs.TermLaw.{is_term_text, names_there as naming_there, one_naming, kept_term, one_term}
 pub use Rattle.term_texts.proofs.TermLaw.{AreNamed, KeepsTexts}
 use Rattle.text_core.specs.Names.{words, HaveOnePlace}
 use Rattle.text_core.specs.declared.name.Name.{Name}
 use Rattle.rs_tokens.specs.Tokens.{is_identifier}
 use Rattle.proof_text.specs.declared.rule_words.TermLine.{TermLine}
 use Rattle.proof_text.specs.declared.rule_words.TermLine.TheVariants.{Rule, Division, Instance}
-use Rattle.proof_text.specs.ProofTextWords.{◌>>=◌, Each, label_of, two_texts, label_and_texts}
-use Rattle.proof_text.specs.ProofTextRules.{rewriting_in, place_in, term_word, term_line_of}
-use Rattle.proof_text.specs.ProofTextLines.{head_of, rest_of, words_of, text_at, case_in, name_listed, name_in_case, multiples_in, word_of, SpellsRest, SpellsParts, SpellsStep, texts_by, terms_behind, NamesInTerm, NamesInTerms, NamesInTwo, NamesByLine, NamesOfParts, NamesTexts}
-use Rattle.proof_text.specs.ProofTextFile.{is_plain_step, is_term, is_term_rest, are_terms, are_all_terms, is_step_by, is_step, step, line_if, line_by_head, line_of, rule_step_of}
+use Rattle.proof_text.specs.ProofTextWords.{◌>>=◌, Each, label_of, two_texts, label_and_texts, text_and_names, name_and_names, lists_of, joined}
+use Rattle.proof_text.specs.ProofTextRules.{rewriting_in, place_in, lists_behind, term_word, term_line_of}
+use Rattle.proof_text.specs.ProofTextLines.{head_of, rest_of, words_of, text_at, case_in, name_listed, name_in_case, names_in_induct, multiples_in, word_of, SpellsRest, SpellsParts, SpellsStep}
+use Rattle.proof_text.specs.ProofTextLines.{texts_by, terms_behind, NamesInTerm, NamesInRule, NamesInTerms, NamesInTwo, NamesByLine, NamesOfParts, NamesTexts}
+use Rattle.proof_text.specs.ProofTextFile.{is_plain_step, is_term, is_term_rest, is_rule_rest, are_terms, are_all_terms, is_step_by, is_step, step, line_if, line_by_head, line_of, rule_step_of}
 use Rattle.proof_text.specs.ProofTextLaws.{AlikeStep}
 use Rattle.proof_text.proofs.LineLaw.{is_plain, text_line}
 use Rattle.proof_text.proofs.TermLists.{term_told, told_term, and_parts, named_parts, term_here, each_map, all_told, terms_here, all_names, once_in_terms, alike_each, each_once}
@@ -35,7 +36,13 @@ use Rattle.proof_text.proofs.RuleLaw.{rule_there, to_labels, hypothesis_step, go
 term_rest : (table : List (List ℕ)) (rest : Option (List ℕ)) (rule : TermRule) (t : Pterm) → SpellsRest table rest (OnTerm rule t) → is_step (term_word rule) rest ≡ true
 unfolding is_step
 term_rest table rest rule t h =
-    ap (λ o. is_step_by o (term_word rule) rest) (term_found (Rule rule)) ∙ (ap is_term_rest h.1 ∙ term_told h.0 (is_term_text table h.0 t h.2))
+    ap (λ o. is_step_by o (term_word rule) rest) (term_found (Rule rule))
+    ∙ (ap (λ (r : Option (List ℕ)). is_rule_rest (r >>= lists_behind rule) r) h.1 ∙ (ap (λ o. is_rule_rest o (Some h.0)) h.3 ∙ term_told h.0 (is_term_text table h.0 t h.2)))
+
+variants_rest : (table : List (List ℕ)) (rest : Option (List ℕ)) (t : Pterm) (names : List (List Name)) → SpellsRest table rest (ByVariants t names) → is_step (codes "on") rest ≡ true
+unfolding is_step
+variants_rest table rest t names h =
+    ap (λ o. is_step_by o (codes "on") rest) (term_found (Rule On)) ∙ (ap (λ o. is_rule_rest o rest) h.1 ∙ term_told h.0.0 (is_term_text table h.0.0 t h.2))
 
 both_told : (a b : List ℕ) → IsTermText a → IsTermText b → (is_term a && is_term b) ≡ true
 both_told a b p q = ap₂ (λ x y. x && y) (term_told a p) (term_told b q)
@@ -66,8 +73,8 @@ rest_is table rest (Unpack l x) h = ap is_some h.1
 rest_is table rest (OnTerm r t) h = term_rest table rest r t h
 rest_is table rest (Divide t u) h = two_rest table rest t u h
 rest_is table rest (Instantiate l ts) h = instance_rest table rest l ts h
-rest_is table rest (ByVariants t names) h = absurd h
-rest_is table rest (Induct x names) h = absurd h
+rest_is table rest (ByVariants t names) h = variants_rest table rest t names h
+rest_is table rest (Induct x names) h = ap is_some h.1
 rest_is table rest (OnTwo r l m) h = (pair_head r).2 rest ∙ ap is_some (rule_read table rest (OnTwo r l m) h)
 
 by_word : (s : Step) (rest : Option (List ℕ)) → line_by_head (word_of s) rest ≡ line_if (is_step (word_of s) rest) step
@@ -111,6 +118,14 @@ names_there table (text ∷ texts) h =
     let rest : map (text_at table) more.0 ≡ map Some texts = more.1 in
     (h.0.0 ∷ more.0, ap (λ o. o ∷ map (text_at table) more.0) first ∙ ap (λ os. Some text ∷ os) rest)
 
+lists_there : (table : List (List ℕ)) (lists : List (List (List ℕ))) → AreNamed table (joined lists) → (names : List (List Name)) × (map (map (text_at table)) names ≡ map (map Some) lists)
+lists_there table [] h = ([], refl)
+lists_there table (texts ∷ lists) h =
+    let have = named_parts table texts (joined lists) h in
+    let first = names_there table texts have.0 in
+    let others = lists_there table lists have.1 in
+    (first.0 ∷ others.0, ap (λ o. o ∷ map (map (text_at table)) others.0) first.1 ∙ ap (λ os. map Some texts ∷ os) others.1)
+
 some_of : {A : Type 0} (o : Option A) → is_some o ≡ true → (x : A) × (o ≡ Some x)
 some_of None e = absurd (cc)
 some_of (Some x) e = (x, refl)
@@ -130,37 +145,66 @@ case_there : (table : List (List ℕ)) (head : List ℕ) (rest : Option (List �
 case_there table head rest l None e w named = (OnHypothesis Cases l, (w, to_labels rest l e))
 case_there table head rest l (Some text) e w named = (Unpack l named.0.0, (w, (text, e, named.0.1)))
 
-by_words : (table : List (List ℕ)) (head : List ℕ) (rest : Option (List ℕ)) (a b c d e f g : Bool) → bytes_eq head (codes "intro") ≡ a → bytes_eq head (codes "hyp") ≡ b → bytes_eq head (codes "split") ≡ c →
-    bytes_eq head (codes "lin") ≡ d → bytes_eq head (codes "rewrite") ≡ e → bytes_eq head (codes "cond") ≡ f → bytes_eq head (codes "cases") ≡ g →
+induct_there : (table : List (List ℕ)) (head : List ℕ) (rest : Option (List ℕ)) (o : Option (List ℕ × List (List ℕ))) → (rest >>= name_and_names) ≡ o → is_some o ≡ true → head ≡ codes "induct" → AreNamed table (names_in_induct o) →
+    Spelled table head rest
+induct_there table head rest None e is w named = absurd (cc)
+induct_there table head rest (Some parts) e is w named =
+    let lists = lists_there table (lists_of parts.1) named.1 in
+    (Induct named.0.0 lists.0, (w, (parts, e, named.0.1, lists.1)))
+
+last_words : (table : List (List ℕ)) (head : List ℕ) (rest : Option (List ℕ)) (i : Bool) → bytes_eq head (codes "induct") ≡ i → cond i (is_some (rest >>= name_and_names)) (is_some (rule_step_of head rest)) ≡ true →
+    AreNamed table (cond i (names_in_induct (rest >>= name_and_names)) []) → Spelled table head rest
+last_words table head rest true w is named = induct_there table head rest (rest >>= name_and_names) refl is (same_head head (codes "induct") w) named
+last_words table head rest false w is named = let found = some_of (rule_step_of head rest) is in (found.0, rule_there table head found.0 rest found.1)
+
+by_words : (table : List (List ℕ)) (head : List ℕ) (rest : Option (List ℕ)) (a b c d e f g i : Bool) → bytes_eq head (codes "intro") ≡ a → bytes_eq head (codes "hyp") ≡ b → bytes_eq head (codes "split") ≡ c →
+    bytes_eq head (codes "lin") ≡ d → bytes_eq head (codes "rewrite") ≡ e → bytes_eq head (codes "cond") ≡ f → bytes_eq head (codes "cases") ≡ g → bytes_eq head (codes "induct") ≡ i →
     cond a (list_all is_identifier (words_of rest)) (cond b (is_some (rest >>= label_of)) (cond c (is_none rest) (cond d (is_some (rest >>= multiples_in)) (cond e (is_some (rest >>= rewriting_in))
-    (cond f (is_some (rest >>= place_in)) (cond g (is_some (rest >>= case_in)) (is_some (rule_step_of head rest)))))))) ≡ true →
-    AreNamed table (cond a (words_of rest) (cond g (name_in_case (rest >>= case_in)) [])) → Spelled table head rest
-by_words table head rest true b c d e f g p q r s t u v is named =
+    (cond f (is_some (rest >>= place_in)) (cond g (is_some (rest >>= case_in)) (cond i (is_some (rest >>= name_and_names)) (is_some (rule_step_of head rest))))))))) ≡ true →
+    AreNamed table (cond a (words_of rest) (cond g (name_in_case (rest >>= case_in)) (cond i (names_in_induct (rest >>= name_and_names)) []))) → Spelled table head rest
+by_words table head rest true b c d e f g i p q r s t u v w is named =
     let names = names_there table (words_of rest) named in (Intro names.0, (same_head head (codes "intro") p, (is, names.1)))
-by_words table head rest false true c d e f g p q r s t u v is named = let l = some_of (rest >>= label_of) is in (Hyp l.0, (same_head head (codes "hyp") q, l.1))
-by_words table head rest false false true d e f g p q r s t u v is named = (Split, (same_head head (codes "split") r, none_of rest is))
-by_words table head rest false false false true e f g p q r s t u v is named = let ms = some_of (rest >>= multiples_in) is in (Lin ms.0, (same_head head (codes "lin") s, ms.1))
-by_words table head rest false false false false true f g p q r s t u v is named = let found = some_of (rest >>= rewriting_in) is in (Rewrite found.0, (same_head head (codes "rewrite") t, found.1))
-by_words table head rest false false false false false true g p q r s t u v is named =
+by_words table head rest false true c d e f g i p q r s t u v w is named = let l = some_of (rest >>= label_of) is in (Hyp l.0, (same_head head (codes "hyp") q, l.1))
+by_words table head rest false false true d e f g i p q r s t u v w is named = (Split, (same_head head (codes "split") r, none_of rest is))
+by_words table head rest false false false true e f g i p q r s t u v w is named = let ms = some_of (rest >>= multiples_in) is in (Lin ms.0, (same_head head (codes "lin") s, ms.1))
+by_words table head rest false false false false true f g i p q r s t u v w is named = let found = some_of (rest >>= rewriting_in) is in (Rewrite found.0, (same_head head (codes "rewrite") t, found.1))
+by_words table head rest false false false false false true g i p q r s t u v w is named =
     let found = some_of (rest >>= place_in) is in (Decide found.0.0 found.0.1, (same_head head (codes "cond") u, found.1))
-by_words table head rest false false false false false false true p q r s t u v is named =
+by_words table head rest false false false false false false true i p q r s t u v w is named =
     let found = some_of (rest >>= case_in) is in
     case_there table head rest found.0.0 found.0.1 found.1 (same_head head (codes "cases") v) (subst (λ (o : Option (Label2 × Option (List ℕ))). AreNamed table (name_in_case o)) found.1 named)
-by_words table head rest false false false false false false false p q r s t u v is named = let found = some_of (rule_step_of head rest) is in (found.0, rule_there table head found.0 rest found.1)
+by_words table head rest false false false false false false false i p q r s t u v w is named = last_words table head rest i w is named
 
 plain_there : (table : List (List ℕ)) (head : List ℕ) (rest : Option (List ℕ)) → is_plain_step head rest ≡ true → AreNamed table (texts_by head rest) → Spelled table head rest
 unfolding is_plain_step texts_by
 plain_there table head rest is named =
     by_words table head rest (bytes_eq head (codes "intro")) (bytes_eq head (codes "hyp")) (bytes_eq head (codes "split")) (bytes_eq head (codes "lin")) (bytes_eq head (codes "rewrite"))
-    (bytes_eq head (codes "cond")) (bytes_eq head (codes "cases")) refl refl refl refl refl refl refl is named
+    (bytes_eq head (codes "cond")) (bytes_eq head (codes "cases")) (bytes_eq head (codes "induct")) refl refl refl refl refl refl refl refl is named
 
-term_line : (table : List (List ℕ)) (head : List ℕ) (rest : Option (List ℕ)) (rule : TermRule) (texts : List (List ℕ)) → term_line_of head ≡ Some (Rule rule) → is_term_rest rest ≡ true → NamesInTerm rest texts → AreNamed table texts →
-    Spelled table head rest
-term_line table head None rule texts e is names named = absurd (cc)
-term_line table head (Some text) rule texts e is names named =
-    let term : IsTermText text = told_term text is in
-    let t = spelled_there table text term (subst (AreNamed table) (one_naming text texts _ names (naming_there text term)) named) in
-    (OnTerm rule t.0, (term_spelled head (Rule rule) e, (text, refl, t.1)))
+-- lists of names stand behind terms of `on` alone
+on_word : (rule : TermRule) (text : List ℕ) (parts : List ℕ × List (List ℕ)) → lists_behind rule text ≡ Some parts → (term_word rule ≡ codes "on") × (text_and_names text ≡ Some parts)
+on_word On text parts e = (refl, e)
+on_word Cut text parts e = absurd (cc)
+on_word Range text parts e = absurd (cc)
+on_word Witness text parts e = absurd (cc)
+on_word Eta text parts e = absurd (cc)
+
+term_line : (table : List (List ℕ)) (head text : List ℕ) (rule : TermRule) (o : Option (List ℕ × List (List ℕ))) (texts : List (List ℕ)) → lists_behind rule text ≡ o → head ≡ term_word rule → is_rule_rest o (Some text) ≡ true →
+    NamesInRule o (Some text) texts → AreNamed table texts → Spelled table head (Some text)
+term_line table head text rule None texts e w is names named =
+    let t = term_here table text texts is names named in
+    (OnTerm rule t.0, (w, (text, refl, t.1, e)))
+term_line table head text rule (Some parts) texts e w is names named =
+    let have = named_parts table names.0 (joined (lists_of parts.1)) (subst (AreNamed table) names.2 named) in
+    let t = term_here table parts.0 names.0 is names.1 have.0 in
+    let lists = lists_there table (lists_of parts.1) have.1 in
+    let on = on_word rule text parts e in
+    (ByVariants t.0 lists.0, (w ∙ on.0, (parts, on.1, t.1, lists.1)))
+
+rule_line : (table : List (List ℕ)) (head : List ℕ) (rest : Option (List ℕ)) (rule : TermRule) (texts : List (List ℕ)) → head ≡ term_word rule → is_rule_rest (rest >>= lists_behind rule) rest ≡ true →
+    NamesInRule (rest >>= lists_behind rule) rest texts → AreNamed table texts → Spelled table head rest
+rule_line table head None rule texts w is names named = absurd (cc)
+rule_line table head (Some text) rule texts w is names named = term_line table head text rule (lists_behind rule text) texts refl w is names named
 
 two_line : (table : List (List ℕ)) (head : List ℕ) (rest : Option (List ℕ)) (o : Option (List ℕ × List ℕ)) (texts : List (List ℕ)) → (rest >>= two_texts) ≡ o → head ≡ codes "div" → are_terms o ≡ true → NamesInTwo o texts →
     AreNamed table texts → Spelled table head rest
@@ -182,7 +226,7 @@ instance_line table head rest (Some parts) texts e w is names named =
 by_line : (table : List (List ℕ)) (head : List ℕ) (rest : Option (List ℕ)) (texts : List (List ℕ)) (o : Option TermLine) → term_line_of head ≡ o → is_step_by o head rest ≡ true → NamesByLine o head rest texts → AreNamed table texts →
     Spelled table head rest
 by_line table head rest texts None e is names named = plain_there table head rest is (subst (AreNamed table) names named)
-by_line table head rest texts (Some (Rule rule)) e is names named = term_line table head rest rule texts e is names named
+by_line table head rest texts (Some (Rule rule)) e is names named = rule_line table head rest rule texts (term_spelled head (Rule rule) e) is names named
 by_line table head rest texts (Some Division) e is names named = two_line table head rest (rest >>= two_texts) texts refl (term_spelled head Division e) is names named
 by_line table head rest texts (Some Instance) e is names named = instance_line table head rest (rest >>= label_and_texts) texts refl (term_spelled head Instance e) is names named
 
@@ -199,6 +243,10 @@ term_names : (rest : Option (List ℕ)) → is_term_rest rest ≡ true → (text
 term_names None is = absurd (cc)
 term_names (Some text) is = let term : IsTermText text = told_term text is in (_, naming_there text term)
 
+rule_names : (o : Option (List ℕ × List (List ℕ))) (rest : Option (List ℕ)) → is_rule_rest o rest ≡ true → (texts : List (List ℕ)) × NamesInRule o rest texts
+rule_names None rest is = term_names rest is
+rule_names (Some parts) rest is = (_, (_, naming_there parts.0 (told_term parts.0 is), refl))
+
 two_names : (o : Option (List ℕ × List ℕ)) → are_terms o ≡ true → (texts : List (List ℕ)) × NamesInTwo o texts
 two_names None is = absurd (cc)
 two_names (Some both) is =
@@ -207,7 +255,7 @@ two_names (Some both) is =
 
 names_by : (head : List ℕ) (rest : Option (List ℕ)) (o : Option TermLine) → is_step_by o head rest ≡ true → (texts : List (List ℕ)) × NamesByLine o head rest texts
 names_by head rest None is = (texts_by head rest, refl)
-names_by head rest (Some (Rule rule)) is = term_names rest is
+names_by head rest (Some (Rule rule)) is = rule_names (rest >>= lists_behind rule) rest is
 names_by head rest (Some Division) is = two_names (rest >>= two_texts) is
 names_by head rest (Some Instance) is = all_names (terms_behind rest) is
 
@@ -219,6 +267,10 @@ once_in_term : (rest : Option (List ℕ)) (one other : List (List ℕ)) → Name
 once_in_term None one other a b = a ∙ sym b
 once_in_term (Some text) one other a b = one_naming text one other a b
 
+once_in_rule : (o : Option (List ℕ × List (List ℕ))) (rest : Option (List ℕ)) (one other : List (List ℕ)) → NamesInRule o rest one → NamesInRule o rest other → one ≡ other
+once_in_rule None rest one other a b = once_in_term rest one other a b
+once_in_rule (Some parts) rest one other a b = a.2 ∙ (ap (λ (ts : List (List ℕ)). ts ++ joined (lists_of parts.1)) (one_naming parts.0 a.0 b.0 a.1 b.1) ∙ sym b.2)
+
 once_in_two : (o : Option (List ℕ × List ℕ)) (one other : List (List ℕ)) → NamesInTwo o one → NamesInTwo o other → one ≡ other
 once_in_two None one other a b = a ∙ sym b
 once_in_two (Some both) one other a b =
@@ -226,7 +278,7 @@ once_in_two (Some both) one other a b =
 
 once_by : (head : List ℕ) (rest : Option (List ℕ)) (o : Option TermLine) (one other : List (List ℕ)) → NamesByLine o head rest one → NamesByLine o head rest other → one ≡ other
 once_by head rest None one other a b = a ∙ sym b
-once_by head rest (Some (Rule rule)) one other a b = once_in_term rest one other a b
+once_by head rest (Some (Rule rule)) one other a b = once_in_rule (rest >>= lists_behind rule) rest one other a b
 once_by head rest (Some Division) one other a b = once_in_two (rest >>= two_texts) one other a b
 once_by head rest (Some Instance) one other a b = once_in_terms (terms_behind rest) one other a b
 
@@ -248,12 +300,23 @@ module _ (old new : List (List ℕ)) (keeps : KeepsTexts old new) where
       let others : map (text_at new) ns ≡ map Some ts = kept_names ns ts (cc) in
       ap (λ o. o ∷ map (text_at new) ns) first ∙ ap (λ os. Some t ∷ os) others
 
+  kept_lists : (names : List (List Name)) (lists : List (List (List ℕ))) → map (map (text_at old)) names ≡ map (map Some) lists → map (map (text_at new)) names ≡ map (map Some) lists
+  kept_lists [] [] h = refl
+  kept_lists [] (ts ∷ lists) h = absurd (cc)
+  kept_lists (ns ∷ names) [] h = absurd (cc)
+  kept_lists (ns ∷ names) (ts ∷ lists) h =
+      let here : map (text_at old) ns ≡ map Some ts = cc in
+      let others : map (map (text_at old)) names ≡ map (map Some) lists = cc in
+      ap (λ os. os ∷ map (map (text_at new)) names) (kept_names ns ts here) ∙ ap (λ oss. map Some ts ∷ oss) (kept_lists names lists others)
+
   kept_rest : (rest : Option (List ℕ)) (s : Step) → SpellsRest old rest s → SpellsRest new rest s
   kept_rest rest (Intro names) h = (h.0, kept_names names (words_of rest) h.1)
-  kept_rest rest (OnTerm r t) h = (h.0, h.1, kept_term old new keeps h.0 t h.2)
+  kept_rest rest (OnTerm r t) h = (h.0, h.1, kept_term old new keeps h.0 t h.2, h.3)
   kept_rest rest (Divide t u) h = (h.0, h.1, kept_term old new keeps h.0.0 t h.2, kept_term old new keeps h.0.1 u h.3)
   kept_rest rest (Instantiate l ts) h = (h.0, h.1, each_map (SpellsWholeTerm old) (SpellsWholeTerm new) (kept_term old new keeps) h.0 ts h.2)
   kept_rest rest (Unpack l x) h = (h.0, h.1, keeps x.0 h.0 h.2)
+  kept_rest rest (ByVariants t names) h = (h.0, h.1, kept_term old new keeps h.0.0 t h.2, kept_lists names (lists_of h.0.1) h.3)
+  kept_rest rest (Induct x names) h = (h.0, h.1, keeps x.0 h.0.0 h.2, kept_lists names (lists_of h.0.1) h.3)
   kept_rest rest _ h = h
 
   pub kept_step : (text : List ℕ) (s : Step) → SpellsStep old text s → SpellsStep new text s
@@ -263,6 +326,13 @@ module _ (old new : List (List ℕ)) (keeps : KeepsTexts old new) where
 
 same_found : {A : Type 0} (p q : Label2 × A) → Some p ≡ Some q → p ≡ q
 same_found p q e = cc
+
+-- before lists of names no formula is spelled
+no_formula : (table other : List (List ℕ)) (rest : Option (List ℕ)) (t u : Pterm) (names : List (List Name)) → SpellsRest table rest (ByVariants t names) → SpellsRest other rest (OnTerm On u) → ⊥
+no_formula table other rest t u names h k =
+    let none : (rest >>= text_and_names) ≡ None = ap (λ (r : Option (List ℕ)). r >>= text_and_names) k.1 ∙ k.3 in
+    let both : None ≡ Some h.0 = sym none ∙ h.1 in
+    absurd (cc)
 
 module _ (table other : List (List ℕ)) (rest : Option (List ℕ)) where
   abbrev AlikeTerm : Pterm → Pterm → Type 0
@@ -289,6 +359,22 @@ module _ (table other : List (List ℕ)) (rest : Option (List ℕ)) where
       let texts : k.0 ≡ h.0 = sym (ap (λ (p : Label2 × List (List ℕ)). p.1) pair) in
       (label, alike_each table other h.0 ts us h.2 (subst (λ (xs : List (List ℕ)). Each (SpellsWholeTerm other) xs us) texts k.2))
 
+  alike_lists : (ms ns : List (List Name)) (p q : List ℕ × List (List ℕ)) → p ≡ q → map (map (text_at table)) ms ≡ map (map Some) (lists_of p.1) → map (map (text_at other)) ns ≡ map (map Some) (lists_of q.1) →
+      map (map (text_at table)) ms ≡ map (map (text_at other)) ns
+  alike_lists ms ns p q same h k = h ∙ (ap (λ (x : List ℕ × List (List ℕ)). map (map Some) (lists_of x.1)) same ∙ sym k)
+
+  alike_variants : (t u : Pterm) (ms ns : List (List Name)) → SpellsRest table rest (ByVariants t ms) → SpellsRest other rest (ByVariants u ns) → AlikeTerm t u × (map (map (text_at table)) ms ≡ map (map (text_at other)) ns)
+  alike_variants t u ms ns h k =
+      let same : Some h.0 ≡ Some k.0 = sym h.1 ∙ k.1 in
+      let parts : h.0 ≡ k.0 = cc in
+      ((h.0.0, h.2, subst (λ (x : List ℕ × List (List ℕ)). SpellsWholeTerm other x.0 u) (sym parts) k.2), alike_lists ms ns h.0 k.0 parts h.3 k.3)
+
+  alike_induct : (x y : Name) (ms ns : List (List Name)) → SpellsRest table rest (Induct x ms) → SpellsRest other rest (Induct y ns) → (text_at table x ≡ text_at other y) × (map (map (text_at table)) ms ≡ map (map (text_at other)) ns)
+  alike_induct x y ms ns h k =
+      let same : Some h.0 ≡ Some k.0 = sym h.1 ∙ k.1 in
+      let parts : h.0 ≡ k.0 = cc in
+      (h.2 ∙ (ap (λ (p : List ℕ × List (List ℕ)). Some p.0) parts ∙ sym k.2), alike_lists ms ns h.0 k.0 parts h.3 k.3)
+
   alike_rest : (s t : Step) → bytes_eq (word_of s) (word_of t) ≡ true → rule_part s ≡ rule_part t → SpellsRest table rest s → SpellsRest other rest t → AlikeStep table other s t
   alike_rest (Intro ms) (Intro ns) e r h k = h.1 ∙ sym k.1
   alike_rest (Hyp l) (Hyp m) e r h k = let same : Some l ≡ Some m = sym h ∙ k in cc
@@ -304,10 +390,10 @@ module _ (table other : List (List ℕ)) (rest : Option (List ℕ)) where
   alike_rest (OnGoal a) (OnGoal b) e r h k = cc
   alike_rest (OnHypothesis a l) (OnHypothesis b m) e r h k = (cc, cc)
   alike_rest (OnTwo a l m) (OnTwo b n o) e r h k = (cc, cc, cc)
-  alike_rest (ByVariants t names) _ e r h k = absurd h
-  alike_rest (Induct x names) _ e r h k = absurd h
-  alike_rest _ (ByVariants t names) e r h k = absurd k
-  alike_rest _ (Induct x names) e r h k = absurd k
+  alike_rest (ByVariants t ms) (ByVariants u ns) e r h k = alike_variants t u ms ns h k
+  alike_rest (Induct x ms) (Induct y ns) e r h k = alike_induct x y ms ns h k
+  alike_rest (ByVariants t names) (OnTerm On u) e r h k = absurd (no_formula table other rest t u names h k)
+  alike_rest (OnTerm On u) (ByVariants t names) e r h k = absurd (no_formula other table rest t u names k h)
   alike_rest (OnTerm Cut t) (OnTerm Cut u) e r h k = (refl, alike_term Cut t u h k)
   alike_rest (OnTerm On t) (OnTerm On u) e r h k = (refl, alike_term On t u h k)
   alike_rest (OnTerm Range t) (OnTerm Range u) e r h k = (refl, alike_term Range t u h k)
@@ -353,6 +439,20 @@ module _ (table : List (List ℕ)) (place : HaveOnePlace (words ++ table)) where
       let rest : xs ≡ ys = names_once xs ys ts rest_first rest_second in
       ap (λ z. z ∷ xs) here ∙ ap (λ zs. y ∷ zs) rest
 
+  lists_once : (xs ys : List (List Name)) (lists : List (List (List ℕ))) → map (map (text_at table)) xs ≡ map (map Some) lists → map (map (text_at table)) ys ≡ map (map Some) lists → xs ≡ ys
+  lists_once [] [] lists h k = refl
+  lists_once [] (y ∷ ys) [] h k = absurd (cc)
+  lists_once [] (y ∷ ys) (t ∷ ts) h k = absurd (cc)
+  lists_once (x ∷ xs) [] [] h k = absurd (cc)
+  lists_once (x ∷ xs) [] (t ∷ ts) h k = absurd (cc)
+  lists_once (x ∷ xs) (y ∷ ys) [] h k = absurd (cc)
+  lists_once (x ∷ xs) (y ∷ ys) (t ∷ ts) h k =
+      let first : map (text_at table) x ≡ map Some t = cc in
+      let second : map (text_at table) y ≡ map Some t = cc in
+      let rest_first : map (map (text_at table)) xs ≡ map (map Some) ts = cc in
+      let rest_second : map (map (text_at table)) ys ≡ map (map Some) ts = cc in
+      ap₂ (λ (z : List Name) (zs : List (List Name)). z ∷ zs) (names_once x y t first second) (lists_once xs ys ts rest_first rest_second)
+
   rest_once : (rest : Option (List ℕ)) (s t : Step) → AlikeStep table table s t → SpellsRest table rest s → SpellsRest table rest t → s ≡ t
   rest_once rest (Intro ms) (Intro ns) e h k = ap Intro (names_once ms ns (words_of rest) h.1 k.1)
   rest_once rest (Hyp l) (Hyp m) e h k = ap Hyp e
@@ -380,6 +480,14 @@ module _ (table : List (List ℕ)) (place : HaveOnePlace (words ++ table)) where
       let label : l ≡ m = ap (λ (p : Label2 × List (List ℕ)). p.0) pair in
       let texts : k.0 ≡ h.0 = sym (ap (λ (p : Label2 × List (List ℕ)). p.1) pair) in
       let terms : ts ≡ us = each_once table place h.0 ts us h.2 (subst (λ (xs : List (List ℕ)). Each (SpellsWholeTerm table) xs us) texts k.2) in
+      cc
+  rest_once rest (ByVariants t ms) (ByVariants u ns) e h k =
+      let term : t ≡ u = one_term table place e.0.0 t u e.0.1 e.0.2 in
+      let names : ms ≡ ns = lists_once ms ns (lists_of h.0.1) h.3 (sym e.1 ∙ h.3) in
+      cc
+  rest_once rest (Induct x ms) (Induct y ns) e h k =
+      let name : x ≡ y = name_once x y h.0.0 h.2 (sym e.0 ∙ h.2) in
+      let names : ms ≡ ns = lists_once ms ns (lists_of h.0.1) h.3 (sym e.1 ∙ h.3) in
       cc
   rest_once rest _ _ e h k = absurd e
 

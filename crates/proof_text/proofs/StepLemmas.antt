@@ -10,7 +10,7 @@ use Rattle.proof_text.specs.ProofTextLines.{text_at, multiples_of}
 use Rattle.proof_text.specs.ProofTextReads.{KeepsNames}
 use Rattle.proof_text.proofs.StageLemmas.{now}
 
-kept_map : (old new : List (List ℕ)) → KeepsNames old new → (names : List Name) (texts : List (List ℕ)) → map (text_of old) names ≡ map Some texts → map (text_of new) names ≡ map Some texts
+pub kept_map : (old new : List (List ℕ)) → KeepsNames old new → (names : List Name) (texts : List (List ℕ)) → map (text_of old) names ≡ map Some texts → map (text_of new) names ≡ map Some texts
 kept_map old new k [] [] h = refl
 kept_map old new k [] (t ∷ ts) h = cc
 kept_map old new k (n ∷ ns) [] h = cc

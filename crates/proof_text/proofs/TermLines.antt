@@ -6,16 +6,15 @@ use Rattle.name_tables.specs.NameTables.{with_names}
 use Rattle.proof_kernel.specs.declared.step.Step.{Step}
 use Rattle.proof_kernel.specs.declared.step.TermRule.{TermRule}
 use Rattle.proof_text.specs.declared.rule_words.TermLine.TheVariants.{Rule, Division, Instance}
-use Rattle.source_words.specs.Words.{GivesNames}
 use Rattle.proof_text.specs.declared.fault.Fault.{Fault}
 use Rattle.proof_text.specs.declared.fault.Fault.TheVariants.{Bad}
-use Rattle.proof_text.specs.ProofTextRules.{term_word, term_line_of}
-use Rattle.proof_text.specs.ProofTextLines.{SpellsRest, SpellsParts, texts_by, terms_behind, NamesInTerms, NamesInTwo, NamesOfParts}
-use Rattle.proof_text.specs.ProofTextFile.{is_plain_step, is_term, is_term_rest, are_terms, are_all_terms, is_step_by, is_step}
+use Rattle.proof_text.specs.ProofTextRules.{lists_behind, term_word, term_line_of}
+use Rattle.proof_text.specs.ProofTextLines.{SpellsRest, SpellsParts, texts_by, terms_behind, NamesInRule, NamesInTerms, NamesInTwo, NamesOfParts}
+use Rattle.proof_text.specs.ProofTextFile.{is_plain_step, is_rule_rest, are_terms, are_all_terms, is_step_by, is_step}
 use Rattle.proof_text.specs.ProofTextReads.{GivesTexts}
 use Rattle.proof_text.specs.ProofTextWords.{◌>>=◌, two_texts}
 use Rattle.proof_text.proofs.RuleLaw.{term_spelled}
-use Rattle.proof_text.proofs.NameOrder.{gives_plain, gives_term, gives_two, gives_instance}
+use Rattle.proof_text.proofs.NameOrder.{gives_plain, gives_rule, gives_two, gives_instance}
 
 -- where a rest is wanted and none is there
 pub none_by_ok : (own : Option (Bor (List ℕ))) (r : Result (Bor (List ℕ)) Fault) (f : Fault) → r ≡ ok_or own Bad → r ≡ Err f → option_copied own ≡ None
@@ -39,19 +38,19 @@ module _ (head : List ℕ) (own : Option (List ℕ)) where
     -- no term stands there
     pub missing_bad : own ≡ None → is_step head own ≡ false
     unfolding is_step
-    missing_bad none = ap (λ o. is_step_by o head own) (sym e) ∙ ap is_term_rest none
+    missing_bad none = ap (λ o. is_step_by o head own) (sym e) ∙ ap (λ (o : Option (List ℕ)). is_rule_rest (o >>= lists_behind rule) o) none
 
     module _ (rest : List ℕ) (is : own ≡ Some rest) where
       pub term_said : (table : List (List ℕ)) (r : Result Step Fault) → IfOk r (λ s. SpellsParts table (term_word rule) (Some rest) s) → IfOk r (λ s. SpellsParts table head own s)
       term_said table (Ok s) h = (term_spelled head (Rule rule) (sym e) ∙ h.0, subst (λ (o : Option (List ℕ)). SpellsRest table o s) (sym is) h.1)
       term_said table (Err f) h = tt
 
-      pub term_bad : is_term rest ≡ false → is_step head own ≡ false
+      pub term_bad : is_rule_rest (lists_behind rule rest) (Some rest) ≡ false → is_step head own ≡ false
       unfolding is_step
-      term_bad h = ap (λ o. is_step_by o head own) (sym e) ∙ (ap is_term_rest is ∙ h)
+      term_bad h = ap (λ o. is_step_by o head own) (sym e) ∙ (ap (λ (o : Option (List ℕ)). is_rule_rest (o >>= lists_behind rule) o) is ∙ h)
 
-      pub term_table : (old new : List (List ℕ)) (r : Result Step Fault) → OnOk r (GivesNames old rest new) → OnOk r (GivesTexts (NamesOfParts head own) old new)
-      term_table old new (Ok s) h = gives_term head rest own rule old new e is h
+      pub term_table : (old new : List (List ℕ)) (r : Result Step Fault) → OnOk r (GivesTexts (NamesInRule (lists_behind rule rest) (Some rest)) old new) → OnOk r (GivesTexts (NamesOfParts head own) old new)
+      term_table old new (Ok s) h = gives_rule head rest own rule old new e is h
       term_table old new (Err f) h = tt
 
   -- ---- of two terms

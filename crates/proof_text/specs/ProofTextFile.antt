@@ -11,11 +11,11 @@ use Rattle.proof_text.specs.declared.proof.Proof.{Proof}
 use Rattle.logic_term.specs.declared.kinds.Label2.{Label2}
 use Rattle.proof_kernel.specs.declared.step.Step.{Step}
 use Rattle.proof_kernel.specs.declared.step.Step.TheVariants.{OnGoal, OnHypothesis, OnTwo}
-use Rattle.proof_text.specs.ProofTextWords.{◌>>=◌, Each, label_of, two_texts}
+use Rattle.proof_text.specs.ProofTextWords.{◌>>=◌, Each, label_of, two_texts, name_and_names}
 use Rattle.proof_text.specs.declared.rule_words.TermLine.{TermLine}
 use Rattle.proof_text.specs.declared.rule_words.TermLine.TheVariants.{Rule, Division, Instance}
 use Rattle.term_texts.proofs.TermChoice.{term_there}
-use Rattle.proof_text.specs.ProofTextRules.{labels_in, rewriting_in, place_in, goal_rule_of, hypothesis_rule_of, pair_rule_of, term_line_of}
+use Rattle.proof_text.specs.ProofTextRules.{labels_in, rewriting_in, place_in, lists_behind, goal_rule_of, hypothesis_rule_of, pair_rule_of, term_line_of}
 use Rattle.proof_text.specs.ProofTextLines.{head_of, rest_of, words_of, case_in, multiples_in, heading_of, terms_behind, SpellsStep}
 pub use Rattle.proof_text.specs.ProofFileForm.{SpellsProofs, HasNamesOf, IsFirstBadLine}
 
@@ -41,6 +41,7 @@ is_plain_step head rest =
     else if bytes_eq head (codes "rewrite") then is_some (rest >>= rewriting_in)
     else if bytes_eq head (codes "cond") then is_some (rest >>= place_in)
     else if bytes_eq head (codes "cases") then is_some (rest >>= case_in)
+    else if bytes_eq head (codes "induct") then is_some (rest >>= name_and_names)
     else is_some (rule_step_of head rest)
 
 abbrev pub is_left : {A B : Type 0} → A ⊎ B → Bool
@@ -55,6 +56,11 @@ abbrev pub is_term_rest : Option (List ℕ) → Bool
 is_term_rest None = false
 is_term_rest (Some rest) = is_term rest
 
+-- the text before lists of names is a term, or the rest is one where no such lists stand
+abbrev pub is_rule_rest : Option (List ℕ × List (List ℕ)) → Option (List ℕ) → Bool
+is_rule_rest None rest = is_term_rest rest
+is_rule_rest (Some parts) rest = is_term parts.0
+
 abbrev pub are_terms : Option (List ℕ × List ℕ) → Bool
 are_terms None = false
 are_terms (Some texts) = is_term texts.0 && is_term texts.1
@@ -66,7 +72,7 @@ are_all_terms (Some texts) = list_all is_term texts
 -- some step has such a line, of this kind of lines with terms or of none
 abbrev pub is_step_by : Option TermLine → List ℕ → Option (List ℕ) → Bool
 is_step_by None head rest = is_plain_step head rest
-is_step_by (Some (Rule rule)) head rest = is_term_rest rest
+is_step_by (Some (Rule rule)) head rest = is_rule_rest (rest >>= lists_behind rule) rest
 is_step_by (Some Division) head rest = are_terms (rest >>= two_texts)
 is_step_by (Some Instance) head rest = are_all_terms (terms_behind rest)
 

@@ -2,7 +2,7 @@
 use Rattle.std.specs.Prelude.{◌≡◌, ◌⊎◌, ℕ, List, ◌++◌, map}
 use Rattle.text_core.specs.Names.{words, HaveOnePlace}
 use Rattle.proof_kernel.specs.declared.step.Step.{Step}
-use Rattle.proof_kernel.specs.declared.step.Step.TheVariants.{Intro, Hyp, Split, Lin, OnGoal, OnHypothesis, OnTwo, Rewrite, Decide, OnTerm, Divide, Instantiate, Unpack}
+use Rattle.proof_kernel.specs.declared.step.Step.TheVariants.{Intro, Hyp, Split, Lin, OnGoal, OnHypothesis, OnTwo, Rewrite, Decide, OnTerm, Divide, Instantiate, Unpack, ByVariants, Induct}
 use Rattle.source_trees.specs.Pterm.{Pterm}
 use Rattle.proof_text.specs.declared.proof.NumberedStep.{NumberedStep}
 use Rattle.proof_text.specs.declared.proof.Proof.{Proof}
@@ -30,6 +30,9 @@ AlikeStep table other (Divide t u) (Divide v w) =
     ((text : List ℕ) × SpellsWholeTerm table text t × SpellsWholeTerm other text v) × ((text : List ℕ) × SpellsWholeTerm table text u × SpellsWholeTerm other text w)
 AlikeStep table other (Instantiate l ts) (Instantiate m us) = (l ≡ m) × Each (λ (t u : Pterm). (text : List ℕ) × SpellsWholeTerm table text t × SpellsWholeTerm other text u) ts us
 AlikeStep table other (Unpack l x) (Unpack m y) = (l ≡ m) × (text_at table x ≡ text_at other y)
+AlikeStep table other (ByVariants t ms) (ByVariants u ns) =
+    ((text : List ℕ) × SpellsWholeTerm table text t × SpellsWholeTerm other text u) × (map (map (text_at table)) ms ≡ map (map (text_at other)) ns)
+AlikeStep table other (Induct x ms) (Induct y ns) = (text_at table x ≡ text_at other y) × (map (map (text_at table)) ms ≡ map (map (text_at other)) ns)
 AlikeStep table other _ _ = ⊥
 
 abbrev pub AlikeProof : List (List ℕ) → List (List ℕ) → Proof → Proof → Type 0

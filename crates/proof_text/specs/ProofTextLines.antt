@@ -11,10 +11,11 @@ use Rattle.proof_kernel.specs.declared.step.Multiple.{Multiple}
 use Rattle.proof_kernel.specs.declared.step.Step.{Step}
 use Rattle.proof_kernel.specs.declared.step.Step.TheVariants.{Intro, Hyp, Split, Lin, OnGoal, OnHypothesis, OnTwo, Rewrite, Decide, OnTerm, Divide, Instantiate, Unpack, ByVariants, Induct}
 use Rattle.rs_tokens.specs.Tokens.{is_identifier}
+use Rattle.text_core.specs.declared.name.Name.{Name}
 use Rattle.proof_text.specs.declared.rule_words.TermLine.{TermLine}
 use Rattle.proof_text.specs.declared.rule_words.TermLine.TheVariants.{Rule, Division, Instance}
-use Rattle.proof_text.specs.ProofTextWords.{◌>>=◌, number_of, label_of, Each, multiple_of, cut, two_texts, label_and_texts}
-use Rattle.proof_text.specs.ProofTextRules.{goal_word, hypothesis_word, pair_word, term_word, labels_in, rewriting_in, place_in, term_line_of}
+use Rattle.proof_text.specs.ProofTextWords.{◌>>=◌, number_of, label_of, Each, multiple_of, cut, two_texts, label_and_texts, text_and_names, name_and_names, lists_of, joined}
+use Rattle.proof_text.specs.ProofTextRules.{goal_word, hypothesis_word, pair_word, term_word, labels_in, rewriting_in, place_in, lists_behind, term_line_of}
 use Rattle.term_texts.specs.TermTexts.{SpellsWholeTerm, NamesOfTerm}
 pub use Rattle.term_texts.specs.TermTexts.{text_at}
 
@@ -62,6 +63,10 @@ multiples_of (word ∷ words) = do
 abbrev pub multiples_in : List ℕ → Option (List Multiple)
 multiples_in rest = multiples_of (slice_split (λ b. b == 32) rest)
 
+-- under the table's names the lists of names are those between the bars
+abbrev pub NamesLists : List (List ℕ) → List (List ℕ) → List (List Name) → Type 0
+NamesLists table words lists = map (map (text_at table)) lists ≡ map (map Some) (lists_of words)
+
 -- ---- steps
 
 -- the head of a step's line
@@ -93,13 +98,12 @@ SpellsRest table rest (OnHypothesis rule label) = (rest >>= labels_in) ≡ Some 
 SpellsRest table rest (OnTwo rule label other) = (rest >>= labels_in) ≡ Some (label, Some other)
 SpellsRest table rest (Rewrite rewriting) = (rest >>= rewriting_in) ≡ Some rewriting
 SpellsRest table rest (Decide label target) = (rest >>= place_in) ≡ Some (label, target)
-SpellsRest table rest (OnTerm rule t) = (text : List ℕ) × (rest ≡ Some text) × SpellsWholeTerm table text t
+SpellsRest table rest (OnTerm rule t) = (text : List ℕ) × (rest ≡ Some text) × SpellsWholeTerm table text t × (lists_behind rule text ≡ None)
 SpellsRest table rest (Divide t u) = (texts : List ℕ × List ℕ) × ((rest >>= two_texts) ≡ Some texts) × SpellsWholeTerm table texts.0 t × SpellsWholeTerm table texts.1 u
 SpellsRest table rest (Instantiate label ts) = (texts : List (List ℕ)) × ((rest >>= label_and_texts) ≡ Some (label, texts)) × Each (SpellsWholeTerm table) texts ts
 SpellsRest table rest (Unpack label name) = (text : List ℕ) × ((rest >>= case_in) ≡ Some (label, Some text)) × (text_at table name ≡ Some text)
--- no line has these yet
-SpellsRest table rest (ByVariants t names) = ⊥
-SpellsRest table rest (Induct x names) = ⊥
+SpellsRest table rest (ByVariants t names) = (parts : List ℕ × List (List ℕ)) × ((rest >>= text_and_names) ≡ Some parts) × SpellsWholeTerm table parts.0 t × NamesLists table parts.1 names
+SpellsRest table rest (Induct x names) = (parts : List ℕ × List (List ℕ)) × ((rest >>= name_and_names) ≡ Some parts) × (text_at table x ≡ Some parts.0) × NamesLists table parts.1 names
 
 -- the head and the rest spell the step
 abbrev pub SpellsParts : List (List ℕ) → List ℕ → Option (List ℕ) → Step → Type 0
@@ -118,17 +122,28 @@ abbrev pub name_in_case : Option (Label2 × Option (List ℕ)) → List (List �
 name_in_case None = []
 name_in_case (Some found) = name_listed found.1
 
--- the texts that a line of no term names, in order: those of an `intro`, and that of a `cases`
+-- the name of an `induct`, and those of its lists
+abbrev pub names_in_induct : Option (List ℕ × List (List ℕ)) → List (List ℕ)
+names_in_induct None = []
+names_in_induct (Some parts) = parts.0 ∷ joined (lists_of parts.1)
+
+-- the texts that a line of no term names, in order: those of an `intro`, that of a `cases`, and those of an `induct`
 unfoldable pub texts_by : List ℕ → Option (List ℕ) → List (List ℕ)
 texts_by head rest =
     if bytes_eq head (codes "intro") then words_of rest
     else if bytes_eq head (codes "cases") then name_in_case (rest >>= case_in)
+    else if bytes_eq head (codes "induct") then names_in_induct (rest >>= name_and_names)
     else []
 
 -- the texts that a line of a term names: the identifiers and lifetimes of its rest
 abbrev pub NamesInTerm : Option (List ℕ) → List (List ℕ) → Type 0
 NamesInTerm None texts = texts ≡ []
 NamesInTerm (Some rest) texts = NamesOfTerm rest texts
+
+-- the same, or those of the term before lists of names, and then those of the lists
+abbrev pub NamesInRule : Option (List ℕ × List (List ℕ)) → Option (List ℕ) → List (List ℕ) → Type 0
+NamesInRule None rest texts = NamesInTerm rest texts
+NamesInRule (Some parts) rest texts = (own : List (List ℕ)) × NamesOfTerm parts.0 own × (texts ≡ own ++ joined (lists_of parts.1))
 
 -- the terms behind a label
 abbrev pub terms_behind : Option (List ℕ) → Option (List (List ℕ))
@@ -151,7 +166,7 @@ NamesInTwo (Some terms) texts = (first : List (List ℕ)) × (second : List (Lis
 -- the same of a line of this kind, or of one without terms
 abbrev pub NamesByLine : Option TermLine → List ℕ → Option (List ℕ) → List (List ℕ) → Type 0
 NamesByLine None head rest texts = texts ≡ texts_by head rest
-NamesByLine (Some (Rule rule)) head rest texts = NamesInTerm rest texts
+NamesByLine (Some (Rule rule)) head rest texts = NamesInRule (rest >>= lists_behind rule) rest texts
 NamesByLine (Some Division) head rest texts = NamesInTwo (rest >>= two_texts) texts
 NamesByLine (Some Instance) head rest texts = NamesInTerms (terms_behind rest) texts
 

@@ -13,7 +13,10 @@ use Rattle.proof_text.specs.declared.line.Line.TheVariants as lines
 use Rattle.proof_text.specs.declared.reader.Stage.{Stage}
 use Rattle.proof_text.specs.declared.reader.Stage.TheVariants as stages
 use Rattle.proof_text.specs.ProofTextWords.{Each}
-use Rattle.proof_text.specs.ProofTextLines.{SpellsParts, SpellsStep}
+use Rattle.proof_kernel.specs.declared.step.Step.{Step}
+use Rattle.proof_kernel.specs.declared.step.Step.TheVariants.{ByVariants}
+use Rattle.term_texts.specs.TermTexts.{SpellsWholeTerm}
+use Rattle.proof_text.specs.ProofTextLines.{NamesLists, SpellsParts, SpellsStep}
 use Rattle.proof_text.specs.ProofTextFile.{State, start, between, within, Line, passed, heading, step, «end», IsStepOf, IsProofOf}
 
 -- what was read is as it was said; a fault comes where nothing is said, unless memory ran out
@@ -37,6 +40,11 @@ KeepsNames old new = (name : Name) (text : List ℕ) → text_of old name ≡ So
 -- the new table is the old one with names for texts that are named so
 abbrev pub GivesTexts : (List (List ℕ) → Type 0) → List (List ℕ) → List (List ℕ) → Type 0
 GivesTexts Names old new = (texts : List (List ℕ)) × Names texts × (new ≡ with_names old texts)
+
+-- the step is that by the variants of the enum of such a term, with names of such lists
+abbrev pub IsByVariants : List (List ℕ) → List ℕ → List (List ℕ) → Step → Type 0
+IsByVariants table text words (ByVariants t names) = SpellsWholeTerm table text t × NamesLists table words names
+IsByVariants table text words _ = ⊥
 
 -- the line that was read is of this head and rest
 abbrev pub IsHeaded : List (List ℕ) → List ℕ → Option (List ℕ) → Line → code.Line → Type 0

@@ -18,7 +18,7 @@ use Rattle.proof_kernel.specs.declared.step.TermRule.{TermRule}
 use Rattle.proof_kernel.specs.declared.step.TermRule.TheVariants.{Cut, On, Range, Witness, Eta}
 use Rattle.proof_text.specs.declared.rule_words.TermLine.{TermLine}
 use Rattle.proof_text.specs.declared.rule_words.TermLine.TheVariants.{Rule, Division, Instance}
-use Rattle.proof_text.specs.ProofTextWords.{◌>>=◌, label_of, cut}
+use Rattle.proof_text.specs.ProofTextWords.{◌>>=◌, label_of, cut, text_and_names}
 
 -- ---- the words
 
@@ -105,6 +105,13 @@ rewriting_in rest = rewriting_by rest (cut 32 rest)
 -- `L`, or `L in K`
 abbrev pub place_in : List ℕ → Option (Label2 × Target)
 place_in rest = option_map (λ put. (put.equation, put.target)) (put_in Forward rest)
+
+-- ---- what stands behind the word of a rule by a term
+
+-- a text before lists of names: a line of `on` may have them, and then it is the line of the step by the variants of an enum
+abbrev pub lists_behind : TermRule → List ℕ → Option (List ℕ × List (List ℕ))
+lists_behind On rest = text_and_names rest
+lists_behind rule rest = None
 
 -- ---- the words the other way round
 

@@ -1,5 +1,5 @@
 -- What the words of a proof file spell.
-use Rattle.std.specs.Prelude.{ℕ, ℤ, pos, neg_ℤ, ◌+◌, ◌^◌, List, [], ◌∷◌, length, drop, codes, Bool, ◌&&◌, Option, None, Some, slice_index, nat_lt, ◌==◌, if◌then◌else◌}
+use Rattle.std.specs.Prelude.{ℕ, ℤ, pos, neg_ℤ, ◌+◌, ◌^◌, List, [], ◌∷◌, ◌++◌, length, drop, codes, Bool, ◌&&◌, ◌||◌, Option, None, Some, slice_index, nat_lt, ◌==◌, if◌then◌else◌}
 use Rattle.std.specs.Char.{is_ascii_digit}
 use Rattle.std.specs.List.{list_all, slice_split, position_or_len, before_first, after_first}
 use Rattle.std.specs.Option.{option_map}
@@ -9,6 +9,7 @@ use Rattle.logic_term.specs.declared.kinds.Label2.{Label2}
 use Rattle.proof_kernel.specs.declared.step.Multiple.{Multiple}
 use Rattle.proof_kernel.specs.declared.step.Reference.{Reference}
 use Rattle.proof_kernel.specs.declared.step.Reference.TheVariants.{Goal, Hyp, Back}
+use Rattle.rs_tokens.specs.Tokens.{is_identifier}
 
 infixl 10 ◌>>=◌
 abbrev pub ◌>>=◌ : {A B : Type 0} → Option A → (A → Option B) → Option B
@@ -95,6 +96,51 @@ texts_of (piece ∷ pieces) = texts_from piece pieces
 -- one text or more: each semicolon has one space before it and one behind it, and stands between two of them
 unfoldable pub texts_in : List ℕ → Option (List (List ℕ))
 texts_in text = texts_of (slice_split (λ b. b == 59) text)
+
+-- a byte and those behind it, cut at the last such byte among those behind it, or else at the byte itself
+abbrev pub last_from : ℕ → ℕ → List ℕ → Option (List ℕ × List ℕ) → Option (List ℕ × List ℕ)
+last_from byte b bs (Some parts) = Some (b ∷ parts.0, parts.1)
+last_from byte b bs None = if b == byte then Some ([], bs) else None
+
+-- what stands before and after the last such byte
+abbrev pub cut_last : ℕ → List ℕ → Option (List ℕ × List ℕ)
+cut_last byte [] = None
+cut_last byte (b ∷ bs) = last_from byte b bs (cut_last byte bs)
+
+-- words, with one space before each
+abbrev pub spaced_words : List ℕ → Option (List (List ℕ))
+spaced_words [] = Some []
+spaced_words (b ∷ bs) = option_map (slice_split (λ c. c == 32)) (behind_space (b ∷ bs))
+
+-- what stands between two lists of names
+abbrev pub is_bar : List ℕ → Bool
+is_bar word = bytes_eq word (codes "|")
+
+abbrev pub is_listed : List ℕ → Bool
+is_listed word = is_bar word || is_identifier word
+
+-- a text, and the names and bars behind ` :`, of which the colon is the last one
+unfoldable pub text_and_names : List ℕ → Option (List ℕ × List (List ℕ))
+text_and_names rest = do
+  parts ← cut_last 58 rest
+  text ← before_space parts.0
+  words ← spaced_words parts.1
+  if list_all is_listed words then Some (text, words) else None
+
+-- the same, the text being a name
+unfoldable pub name_and_names : List ℕ → Option (List ℕ × List (List ℕ))
+name_and_names rest = do
+  parts ← text_and_names rest
+  if is_identifier parts.0 then Some parts else None
+
+-- the lists of names: what stands before the first bar, between two of them, and behind the last
+abbrev pub lists_of : List (List ℕ) → List (List (List ℕ))
+lists_of words = slice_split is_bar words
+
+-- the names of all lists, in order
+abbrev pub joined : List (List (List ℕ)) → List (List ℕ)
+joined [] = []
+joined (texts ∷ lists) = texts ++ joined lists
 
 -- `S.P`: two numbers with a point between
 unfoldable pub label_of : List ℕ → Option Label2

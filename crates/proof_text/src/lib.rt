@@ -4,11 +4,13 @@
 mod fault;
 mod laws;
 mod line;
+mod lists;
 mod proof;
 mod reader;
 mod rule_words;
 mod step;
 mod table;
+mod texts;
 mod word;
 
 pub use fault::ProofTextError;

@@ -6,14 +6,16 @@ ghost use Rattle.name_tables.specs.NameTables.{with_names};
 ghost use Rattle.rs_tokens.specs.Tokens.{is_identifier};
 ghost use Rattle.source_words.specs.Words.{GivesNames};
 ghost use Rattle.term_texts.specs.TermTexts.{SpellsWholeTerm};
-ghost use Rattle.proof_text.specs.ProofTextRules.{term_word};
-ghost use Rattle.proof_text.specs.ProofTextLines.{words_of, multiples_of, multiples_in, SpellsParts, text_at, case_in, name_in_case, texts_by, terms_behind, NamesInTerms, NamesInEach, NamesInTwo, NamesOfParts};
-ghost use Rattle.proof_text.specs.ProofTextFile.{is_plain_step, is_term, are_terms, are_all_terms, is_step};
-ghost use Rattle.proof_text.specs.ProofTextWords.{Each, two_texts, texts_of, texts_in, label_and_texts};
-ghost use Rattle.proof_text.specs.ProofTextReads.{Reads, KeepsNames, GivesTexts, room_of, total_length};
+ghost use Rattle.proof_text.specs.ProofTextRules.{term_word, lists_behind};
+ghost use Rattle.proof_text.specs.ProofTextLines.{words_of, multiples_of, multiples_in, SpellsParts, text_at, case_in, name_in_case, names_in_induct, texts_by, terms_behind, NamesInTerms, NamesInEach, NamesInTwo, NamesInRule, NamesOfParts};
+ghost use Rattle.proof_text.specs.ProofTextFile.{is_plain_step, is_term, is_rule_rest, are_terms, are_all_terms, is_step};
+ghost use Rattle.proof_text.specs.ProofTextWords.{Each, two_texts, texts_of, texts_in, label_and_texts, name_and_names};
+ghost use Rattle.proof_text.specs.ProofTextReads.{Reads, KeepsNames, GivesTexts, IsByVariants, room_of, total_length};
 
 use crate::fault::Fault;
+use crate::lists::{name_and_names, name_lists, text_and_names};
 use crate::rule_words::{TermLine, place, rewriting, rule_step, term_line};
+use crate::texts::{named, one_name, split_text};
 use crate::word::{at_semicolon, cut, label, label_and_text, multiple, two_texts};
 use logic_term::Label2;
 use proof_kernel::{HypothesisRule, Multiple, Step, TermRule};
@@ -22,15 +24,6 @@ use source_trees::Pterm;
 use std::alloc::Global;
 use term_texts::{TermFault, read_whole_term};
 use text_core::{Items, Name, Names, NoMemory};
-
-/// What stands between such characters.
-fn split_text(alloc: Global, text: &str, at: char) -> Result<Vec<&str>, NoMemory>
-    requires { at < 128 }
-    ensures words { IfOk result (λ words. map (λ word. word.now) words.items ≡ slice_split (λ b. b == at) text.now) }
-    ensures count { IfOk result (λ words. length words.items ≤ length text.now + 1) }
-{
-    Ok(text.split(at).collect(alloc)?)
-}
 
 /// The words of a line's rest.
 fn words<'a>(alloc: Global, rest: Option<&'a str>) -> Result<Vec<&'a str>, NoMemory>
@@ -41,21 +34,6 @@ fn words<'a>(alloc: Global, rest: Option<&'a str>) -> Result<Vec<&'a str>, NoMem
         Some(rest) => split_text(alloc, rest, ' '),
         None => Ok(Vec::new(alloc)),
     }
-}
-
-/// Names of the texts, in order.
-fn named(alloc: Global, texts: &[&str], names: &mut Names) -> Result<Items<Name>, NoMemory>
-    requires { length names.old + length texts.now < 2 ^ 32 }
-    ensures named { IfOk result (λ given. map (text_of names.new) given ≡ map Some (map (λ text. text.now) texts.now)) }
-    ensures table { OnOk result (names.new ≡ with_names names.old (map (λ text. text.now) texts.now)) }
-    ensures kept { KeepsNames names.old names.new }
-    ensures grown { length names.new ≤ length names.old + length texts.now }
-{
-    let mut given = Vec::new(alloc);
-    for text in texts {
-        given.push(names.intern(alloc, *text)?)?;
-    }
-    Ok(Items::from_vec(given))
 }
 
 fn are_identifiers(words: &[&str]) -> bool
@@ -113,16 +91,47 @@ fn whole_term(alloc: Global, text: &str, names: &mut Names) -> Result<Pterm, Fau
     }
 }
 
-/// The step of a rule by the term that the rest of the line is.
+/// A text before lists of names, where the rule may have them.
+fn lists_behind(alloc: Global, rule: TermRule, rest: &str) -> Result<(&str, Vec<&str>), Fault>
+    ensures { Reads (λ said found. (said.0 ≡ found.0.now) × (said.1 ≡ map (λ word. word.now) found.1.items)) result (lists_behind rule rest.now) }
+{
+    match rule {
+        TermRule::On => text_and_names(alloc, rest),
+        TermRule::Cut | TermRule::Range | TermRule::Witness | TermRule::Eta => Err(Fault::Bad),
+    }
+}
+
+/// The step by the variants of the term's enum, with the names between bars.
+fn by_variants(alloc: Global, text: &str, words: &[&str], names: &mut Names) -> Result<Step, Fault>
+    requires { length names.old + length text.now + length words.now < 2 ^ 32 }
+    ensures said { IfOk result (λ step. IsByVariants names.new text.now (map (λ word. word.now) words.now) step) }
+    ensures bad { IsErrOf result Fault.Bad → is_term text.now ≡ false }
+    ensures table { OnOk result (GivesTexts (NamesInRule (Some (text.now, map (λ word. word.now) words.now)) None) names.old names.new) }
+    ensures kept { KeepsNames names.old names.new }
+    ensures grown { length names.new ≤ length names.old + length text.now + length words.now }
+{
+    let term = whole_term(alloc, text, names)?;
+    let lists = name_lists(alloc, words, names)?;
+    Ok(Step::ByVariants(term, lists))
+}
+
+/// The step of a rule by the term that the rest of the line is, or by the variants of its enum where lists of names stand behind it.
 fn on_term(alloc: Global, rule: TermRule, rest: &str, names: &mut Names) -> Result<Step, Fault>
+    requires { length names.old + length rest.now < 2 ^ 32 }
     ensures said { IfOk result (λ step. SpellsParts names.new (term_word rule) (Some rest.now) step) }
-    ensures bad { IsErrOf result Fault.Bad → is_term rest.now ≡ false }
-    ensures table { OnOk result (GivesNames names.old rest.now names.new) }
+    ensures bad { IsErrOf result Fault.Bad → is_rule_rest (lists_behind rule rest.now) (Some rest.now) ≡ false }
+    ensures table { OnOk result (GivesTexts (NamesInRule (lists_behind rule rest.now) (Some rest.now)) names.old names.new) }
     ensures kept { KeepsNames names.old names.new }
     ensures grown { length names.new ≤ length names.old + length rest.now }
 {
-    let term = whole_term(alloc, rest, names)?;
-    Ok(Step::OnTerm(rule, term))
+    match lists_behind(alloc, rule, rest) {
+        Ok((text, words)) => by_variants(alloc, text, &words, names),
+        Err(Fault::Bad) => {
+            let term = whole_term(alloc, rest, names)?;
+            Ok(Step::OnTerm(rule, term))
+        }
+        Err(Fault::NoMemory) => Err(Fault::NoMemory),
+    }
 }
 
 /// `TERM ; TERM`
@@ -221,17 +230,6 @@ fn case(rest: &str) -> Option<(Label2, Option<&str>)>
     }
 }
 
-/// The name of the text.
-fn one_name(alloc: Global, text: &str, names: &mut Names) -> Result<Name, NoMemory>
-    requires { length names.old + 1 < 2 ^ 32 }
-    ensures named { IfOk result (λ name. text_at names.new name ≡ Some text.now) }
-    ensures table { OnOk result (names.new ≡ with_names names.old (text.now ∷ [])) }
-    ensures kept { KeepsNames names.old names.new }
-    ensures grown { length names.new ≤ length names.old + 1 }
-{
-    names.intern(alloc, text)
-}
-
 /// `LABEL`, or `LABEL NAME`
 #[tactic(auto, using(crate::proofs::RuleLaw::to_labels))]
 fn cases(alloc: Global, rest: &str, names: &mut Names) -> Result<Step, Fault>
@@ -247,6 +245,21 @@ fn cases(alloc: Global, rest: &str, names: &mut Names) -> Result<Step, Fault>
         None => Ok(Step::OnHypothesis(HypothesisRule::Cases, label)),
         Some(name) => Ok(Step::Unpack(label, one_name(alloc, name, names)?)),
     }
+}
+
+/// `NAME : NAME .. | ..`
+fn induct(alloc: Global, rest: &str, names: &mut Names) -> Result<Step, Fault>
+    requires { length names.old + length rest.now < 2 ^ 32 }
+    ensures said { IfOk result (λ step. SpellsParts names.new (codes "induct") (Some rest.now) step) }
+    ensures bad { IsErrOf result Fault.Bad → is_some (name_and_names rest.now) ≡ false }
+    ensures table { OnOk result (names.new ≡ with_names names.old (names_in_induct (name_and_names rest.now))) }
+    ensures kept { KeepsNames names.old names.new }
+    ensures grown { length names.new ≤ length names.old + length rest.now }
+{
+    let (text, words) = name_and_names(alloc, rest)?;
+    let name = one_name(alloc, text, names)?;
+    let lists = name_lists(alloc, &words, names)?;
+    Ok(Step::Induct(name, lists))
 }
 
 /// A step without a term, by the first word of its line and the rest.
@@ -287,6 +300,7 @@ fn plain_step(
             Ok(Step::Decide(label, target))
         }
         "cases" => cases(alloc, rest.ok_or(Fault::Bad)?, names),
+        "induct" => induct(alloc, rest.ok_or(Fault::Bad)?, names),
         _ => rule_step(head, rest).ok_or(Fault::Bad),
     }
 }

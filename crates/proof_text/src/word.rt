@@ -3,7 +3,7 @@ ghost use Rattle.std.specs.Char.{is_ascii_digit};
 ghost use Rattle.std.specs.List.{list_all};
 ghost use Rattle.std.specs.Option.{option_map, option_copied};
 ghost use Rattle.proof_text.specs.ProofTextRules.{labels_in};
-ghost use Rattle.proof_text.specs.ProofTextWords.{is_numeral, number_of, multiplier_of, cut, after_minus, label_of, reference_of, multiple_of, before_space, behind_space, two_texts, at_semicolon, label_and_text};
+ghost use Rattle.proof_text.specs.ProofTextWords.{is_numeral, number_of, multiplier_of, cut, after_minus, label_of, reference_of, multiple_of, cut_last, before_space, behind_space, two_texts, at_semicolon, label_and_text};
 
 use logic_term::Label2;
 use proof_kernel::{Multiple, Reference};
@@ -65,15 +65,23 @@ pub(crate) fn cut(word: &str, at: char) -> Option<(&str, &str)>
     word.split_once(at)
 }
 
+/// What stands before and after the last such character.
+pub(crate) fn cut_last(word: &str, at: char) -> Option<(&str, &str)>
+    requires { at < 128 }
+    ensures { option_map (λ parts. (parts.0.now, parts.1.now)) result ≡ cut_last at word.now }
+{
+    word.rsplit_once(at)
+}
+
 /// What stands before a space at the end.
-fn before_space(text: &str) -> Option<&str>
+pub(crate) fn before_space(text: &str) -> Option<&str>
     ensures { option_copied result ≡ before_space text.now }
 {
     text.strip_suffix(' ')
 }
 
 /// What stands behind a space at the start.
-fn behind_space(text: &str) -> Option<&str>
+pub(crate) fn behind_space(text: &str) -> Option<&str>
     ensures { option_copied result ≡ behind_space text.now }
 {
     text.strip_prefix(' ')

@@ -1,4 +1,4 @@
-use Rattle.std.proofs.Common.{◌≡◌, ◌+◌, ◌≤◌, length, map, drop, take}
+use Rattle.std.proofs.Common.{◌+◌, ◌≤◌, length, map, drop, take}
 use Rattle.term_texts.specs.TermTexts.{SpellsWholeTerm}
 use Rattle.proof_text.specs.ProofTextWords.{Each}
 use Rattle.proof_text.specs.ProofTextLines.{NamesInEach}

@@ -3,7 +3,7 @@ use Rattle.text_core.specs.Names.{text_of}
 use Rattle.name_tables.specs.NameTables.{with_names}
 use Rattle.proof_text.specs.ProofTextReads.{KeepsNames}
 use Rattle.proof_text.proofs.StageLemmas.{now}
-use Rattle.proof_text.proofs.step.named.Given as goal
+use Rattle.proof_text.proofs.texts.named.Given as goal
 
 -- the texts so far have names
 abbrev pub invariant-loop-text : goal.invariant-loop-text

@@ -5,7 +5,7 @@ use Rattle.text_core.specs.declared.fault.NoMemory.{NoMemory}
 use Rattle.text_core.specs.declared.name.Name.{Name}
 use Rattle.name_tables.specs.NameTables.{with_name}
 use Rattle.name_tables.proofs.Tables.{interned}
-use Rattle.proof_text.proofs.step.one_name.Goals as goal
+use Rattle.proof_text.proofs.texts.one_name.Goals as goal
 
 grown_by_one : (old new : List (List ℕ)) (text : List ℕ) (r : Result Name NoMemory) → length old + 1 < 2 ^ 32 → IfOk r (λ name. text_of new name ≡ Some text)
     → IfOk r (λ name. (other : Name) → text_of new other ≡ Some text → other ≡ name) → OnOk r ((new ≡ old) ⊎ (new ≡ old ++ text ∷ [])) → OnOk r (new ≡ with_name old text)

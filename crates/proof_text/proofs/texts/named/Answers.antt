@@ -3,7 +3,7 @@ use Rattle.text_core.specs.Names.{text_of}
 use Rattle.name_tables.proofs.Tables.{interned}
 use Rattle.proof_text.proofs.NameOrder.{one_more_named}
 use Rattle.proof_text.proofs.StepLemmas.{one_more}
-use Rattle.proof_text.proofs.step.named.Goals as goal
+use Rattle.proof_text.proofs.texts.named.Goals as goal
 
 grew : (old new : List (List ℕ)) (t : List ℕ) → (new ≡ old) ⊎ (new ≡ old ++ t ∷ []) → length new ≤ length old + 1
 grew old new t (inl e) = omega (arith, ap length e)
