@@ -36,7 +36,12 @@ use type_check::{TypedExpr, TypedNode, TypedStmt};
 /// A new local that holds the value.
 #[cycle(lower)]
 #[tactic(auto, using(crate::proofs::Runs::running))]
-pub(crate) fn lower_new(alloc: Global, b: &mut Builder, c: &mut Around<'_>, e: &TypedExpr) -> Result<u32, Stop>
+pub(crate) fn lower_new(
+    alloc: Global,
+    b: &mut Builder,
+    c: &mut Around<'_>,
+    e: &TypedExpr,
+) -> Result<u32, Stop>
     requires scope { reach e.now ≤ length c.old.scope.items }
     requires good { bad_in e.now ≡ None }
     ensures number { IfOk result (λ t. t ≡ length b.old.text.locals) }
