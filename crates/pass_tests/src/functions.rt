@@ -47,11 +47,11 @@ const NOT_BUILT: [Row; 57] = [
     (b"fn f() { let (a, b) = c; }", Code::E20, 13, 14),
     (b"fn f() { #[variant(x)] while x {} }", Code::E20, 9, 10),
     (b"fn f() { #[requires(x)] while x {} }", Code::E20, 9, 10),
-    (b"fn f() { loop {} }", Code::E20, 9, 13),
+    (b"fn f() { loop { x.0; } }", Code::E20, 16, 17),
     (b"fn f() { if let x = y {} }", Code::E20, 12, 15),
     (b"fn f() { match x { _ => 1 } }", Code::E20, 9, 14),
     (b"fn f() { |x: i32| 1 }", Code::E20, 9, 10),
-    (b"fn f() { return }", Code::E20, 9, 15),
+    (b"fn f() { return x.0 }", Code::E20, 16, 17),
     (b"fn f(mut self) {}", Code::E20, 5, 8),
     (b"fn f(x: &i32) {}", Code::E20, 8, 9),
     (b"fn f(x: u7) {}", Code::E20, 8, 10),
@@ -102,7 +102,7 @@ const NOT_BUILT: [Row; 57] = [
     ),
     (b"fn f() { g(*x) }", Code::E20, 11, 12),
     (b"fn f() { g(&mut x) }", Code::E20, 11, 12),
-    (b"fn f() { panic!() }", Code::E20, 9, 14),
+    (b"fn f() { snapshot!(x) }", Code::E20, 9, 17),
     (b"fn f() { proof_assert!(x.0 == 1); }", Code::E20, 9, 21),
     (b"fn f() { let x: (u8, u8) = y.0; }", Code::E20, 16, 17),
     (b"fn f() { let x: u8 = y.0; }", Code::E20, 21, 22),
@@ -120,7 +120,7 @@ const NOT_BUILT: [Row; 57] = [
         21,
         22,
     ),
-    (b"fn f() { #[invariant(x)] loop {} }", Code::E20, 25, 29),
+    (b"fn f() { #[requires(x)] loop {} }", Code::E20, 9, 10),
     (b"fn f() -> Self {}", Code::E20, 10, 14),
     (b"fn f(x: i8) -> (u8, u8) where T: A {}", Code::E20, 15, 16),
     (b"fn f(x: i8) where T: A { x.0 }", Code::E20, 12, 17),
@@ -158,7 +158,7 @@ const NOT_RUN: [Row; 5] = [
 ];
 
 /// All forms are built.
-const BUILT: [(&'static [u8], usize); 4] = [
+const BUILT: [(&'static [u8], usize); 7] = [
     (
         b"#![allow(x)] use std::vec::Vec; #[doc(\"x\")] #[requires(true)] pub(crate) fn f() { #[inline] #[invariant(true)] while true {} }",
         1,
@@ -175,6 +175,15 @@ const BUILT: [(&'static [u8], usize); 4] = [
         b"#[requires(x@ > 0 ==> x@ < 3)] #[ensures(result@ == 4 || !(x@ == 1))] fn f(x: i8) -> i8 { #[invariant(x@ >= 0)] while x > 0 { x; } 4 }",
         1,
     ),
+    (
+        b"fn f(n: u8) -> u8 { let mut k: u8 = 0; #[invariant(k@ <= n@)] loop { if k == n { break; } if k < 3 { k = k + 1; continue; } return k; } k }",
+        1,
+    ),
+    (
+        b"fn f(b: bool) -> i8 { if b { unreachable!(\"never\") } else { return 1; } } fn g() -> i8 { panic!() }",
+        2,
+    ),
+    (b"fn f() { return } fn g() { loop { while true { break; } } }", 2),
 ];
 
 /// The text is accepted, with so many functions.

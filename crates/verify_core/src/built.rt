@@ -14,7 +14,7 @@ use std::alloc::Global;
 use text_core::{Code, Items, Names, PassError, SourceError, Span};
 
 /// The forms that are built. Whoever builds a form puts its word here.
-pub(crate) const BUILT: [Form; 42] = [
+pub(crate) const BUILT: [Form; 48] = [
     // ---- declared types
     Form::Struct,
     Form::Enum,
@@ -49,6 +49,13 @@ pub(crate) const BUILT: [Form; 42] = [
     // ---- loops
     Form::Invariant,
     Form::While,
+    Form::Loop,
+    Form::Break,
+    Form::Continue,
+    // ---- what leaves
+    Form::Return,
+    Form::Panic,
+    Form::Unreachable,
     // ---- expressions
     Form::Integer,
     Form::Truth,

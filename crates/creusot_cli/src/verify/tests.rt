@@ -73,7 +73,7 @@ impl Call<'_> {
 }
 
 /// Sources and proofs, with the status and what is printed.
-const REPORTS: [(&[u8], &[u8], u8, &[u8]); 9] = [
+const REPORTS: [(&[u8], &[u8], u8, &[u8]); 12] = [
     (SOURCE, PROOFS, 0, REPORT),
     (
         WITHOUT_BOUND,
@@ -122,6 +122,25 @@ const REPORTS: [(&[u8], &[u8], u8, &[u8]); 9] = [
         b"creusot-proofs 1\nproof 1 up\nintro n k\nlin 1:goal 1:1.1\nend\nproof 2 up\nintro n i\nrange i\nrange n\nsplit\nlin 1:goal 1:2.1\nlin 1:goal 1:1.2 1:3.2\nend\nproof 3 up\nintro n i v k\nlin 1:goal 1:1.4\nend\n",
         0,
         b"verified up\nsummary functions 1 verified 1 obligations 3 proved 3\n",
+    ),
+    // What leaves: nothing is owed for a loop, and no run may come to a panic.
+    (
+        b"fn f(b: bool) -> bool { loop { if b { return b; } else { continue; } } }",
+        b"creusot-proofs 1\n",
+        0,
+        b"verified f\nsummary functions 1 verified 1 obligations 0 proved 0\n",
+    ),
+    (
+        b"fn f() { panic!(\"no\"); }",
+        b"creusot-proofs 1\n",
+        1,
+        b"open 1 unreachable 9..21 line 1 missing f\nsummary functions 1 verified 0 obligations 1 proved 0\n",
+    ),
+    (
+        b"#[requires(x@ > 0)]\nfn f(x: i32) -> i32 { if x < 1 { panic!() } x }\n",
+        b"creusot-proofs 1\nproof 1 f\nintro x\nlin 1:1.1 1:1.2\nend\n",
+        0,
+        b"verified f\nsummary functions 1 verified 1 obligations 1 proved 1\n",
     ),
 ];
 
@@ -196,14 +215,17 @@ const NOT_BUILT: [(&[u8], &[u8]); 23] = [
     (b"fn f<T>() {}", b"error E20 4..5 line 1\n"),
     (b"fn f(x: &u32) {}", b"error E20 8..9 line 1\n"),
     (b"fn f(x: u32) { match x {} }", b"error E20 15..20 line 1\n"),
-    (b"fn f() { loop {} }", b"error E20 9..13 line 1\n"),
+    (
+        b"fn f() { loop { (1, 2); } }",
+        b"error E20 16..17 line 1\n",
+    ),
     (b"fn f(x: u32) { x.y; }", b"error E20 15..16 line 1\n"),
     (b"fn f() { let (a, b) = 1; }", b"error E20 13..14 line 1\n"),
     (
         b"fn f(x: i32) -> u8 { x as &u8 }",
         b"error E20 26..27 line 1\n",
     ),
-    (b"fn f() { return }", b"error E20 9..15 line 1\n"),
+    (b"fn f() { return (1, 2) }", b"error E20 16..17 line 1\n"),
     // Behind what is passed over, and attributes at their `#`.
     (
         b"use std::mem; pub trait T {}",
@@ -221,7 +243,10 @@ const NOT_BUILT: [(&[u8], &[u8]); 23] = [
         b"error E20 9..10 line 1\n",
     ),
     // Forms whose first words a built form could begin with.
-    (b"fn f() { panic!(); }", b"error E20 9..14 line 1\n"),
+    (
+        b"fn f(x: u32) { snapshot!(x); }",
+        b"error E20 15..23 line 1\n",
+    ),
     (
         b"fn f(x: u32) { proof_assert!(x == 1); }",
         b"error E20 15..27 line 1\n",
