@@ -183,7 +183,10 @@ const BUILT: [(&'static [u8], usize); 7] = [
         b"fn f(b: bool) -> i8 { if b { unreachable!(\"never\") } else { return 1; } } fn g() -> i8 { panic!() }",
         2,
     ),
-    (b"fn f() { return } fn g() { loop { while true { break; } } }", 2),
+    (
+        b"fn f() { return } fn g() { loop { while true { break; } } }",
+        2,
+    ),
 ];
 
 /// The text is accepted, with so many functions.

@@ -215,10 +215,7 @@ const NOT_BUILT: [(&[u8], &[u8]); 23] = [
     (b"fn f<T>() {}", b"error E20 4..5 line 1\n"),
     (b"fn f(x: &u32) {}", b"error E20 8..9 line 1\n"),
     (b"fn f(x: u32) { match x {} }", b"error E20 15..20 line 1\n"),
-    (
-        b"fn f() { loop { (1, 2); } }",
-        b"error E20 16..17 line 1\n",
-    ),
+    (b"fn f() { loop { (1, 2); } }", b"error E20 16..17 line 1\n"),
     (b"fn f(x: u32) { x.y; }", b"error E20 15..16 line 1\n"),
     (b"fn f() { let (a, b) = 1; }", b"error E20 13..14 line 1\n"),
     (
