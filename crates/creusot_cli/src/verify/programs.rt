@@ -152,6 +152,105 @@ end
     b"verified clamp\nsummary functions 1 verified 1 obligations 18 proved 18\n",
 );
 
+const CLIMB: Example = (
+    b"// Counts up to a number, by a loop that is left by its answer.
+
+#[requires(n@ >= 0)]
+#[ensures(result@ == n@)]
+fn climb(n: i32) -> i32 {
+    let mut k: i32 = 0;
+    #[invariant(k@ <= n@)]
+    loop {
+        if k >= n {
+            return k;
+        }
+        k += 1;
+    }
+}
+
+// The largest number with one digit that is below another one: larger ones are passed over, and no run comes to the macro.
+#[requires(n@ > 0)]
+#[ensures(result@ < n@)]
+#[ensures(result@ <= 9)]
+fn digit_below(n: u32) -> u32 {
+    let mut k: u32 = n;
+    #[invariant(k@ <= n@)]
+    #[invariant(k@ > 0)]
+    loop {
+        k -= 1;
+        if k > 9 {
+            continue;
+        }
+        break;
+    }
+    if k >= n {
+        unreachable!();
+    }
+    k
+}
+",
+    b"creusot-proofs 1
+proof 1 climb
+intro n
+hyp 1.1
+end
+proof 2 climb
+intro n u k
+antisym
+hyp 1.2
+hyp 1.3
+end
+proof 3 climb
+intro n u k
+range k
+range n
+split
+lin 1:goal 1:2.1
+lin 1:goal 1:1.3 1:3.2
+end
+proof 4 climb
+intro n u k w
+lin 1:goal 1:1.3 1:1.4
+end
+proof 1 digit_below
+intro n
+lin 1:goal
+end
+proof 2 digit_below
+intro n
+hyp 1.1
+end
+proof 3 digit_below
+intro n k
+range k
+split
+lin 1:goal 1:1.3
+lin 1:goal 1:2.2
+end
+proof 4 digit_below
+intro n k w
+lin 1:goal 1:1.4 1:1.2
+end
+proof 5 digit_below
+intro n k w
+lin 1:goal 1:1.5
+end
+proof 6 digit_below
+intro n k w
+lin 1:1.2 1:1.4 1:1.6
+end
+proof 7 digit_below
+intro n k w
+lin 1:goal 1:1.6
+end
+proof 8 digit_below
+intro n k w
+lin 1:goal 1:1.5
+end
+",
+    b"verified climb\nverified digit_below\nsummary functions 2 verified 2 obligations 12 proved 12\n",
+);
+
 const COUNTER: Example = (
     b"// A counter that stays at 100.
 #[requires(c@ <= 100)]
@@ -550,8 +649,8 @@ end
     b"verified mean\nsummary functions 1 verified 1 obligations 4 proved 4\n",
 );
 
-const EXAMPLES: [Example; 9] = [
-    ABS_DIFF, CLAMP, COUNTER, DOUBLE, EVEN, GCD, ISQRT, MAX, MEAN,
+const EXAMPLES: [Example; 10] = [
+    ABS_DIFF, CLAMP, CLIMB, COUNTER, DOUBLE, EVEN, GCD, ISQRT, MAX, MEAN,
 ];
 
 #[test]
