@@ -85,3 +85,5 @@ none_past (x ∷ xs) (suc i) h = none_past xs i (omega arith)
 pub try_step-end : (bodies : Bodies) (f : Frame (Unit {0})) (fs : S) (b : Body) (k : Block) → slice_get bodies.bodies f.function ≡ Some b → block_in b.blocks f.label ≡ Some k → length k.statements ≤ f.statement
     → try_step (code_of bodies) (f ∷ fs) ≡ end_step (code_of bodies) (f ∷ fs) k.end.span k.end.kind
 try_step-end bodies f fs b k is_body is_block past = try_step-at bodies f fs b k is_body is_block ∙ ap (row (code_of bodies) b f.types (f ∷ fs) k.end) (none_past k.statements f.statement past)
+
+pub ruleset block_ends = (choice_stops, choice_goes, call_stops, call_goes, jump_goes, switch_stops, switch_goes)

@@ -204,7 +204,7 @@ fn call(
 }
 
 /// The end of a block; `Some` with the answer where the run returns.
-#[tactic(auto, using(crate::proofs::BlockEnds::choice_stops, crate::proofs::BlockEnds::choice_goes, crate::proofs::BlockEnds::call_stops, crate::proofs::BlockEnds::call_goes, crate::proofs::BlockEnds::jump_goes, crate::proofs::BlockEnds::switch_stops, crate::proofs::BlockEnds::switch_goes, crate::proofs::Undoing::none_taken))]
+#[tactic(auto, using(crate::proofs::BlockEnds::block_ends, crate::proofs::Undoing::none_taken))]
 pub fn end_block(
     alloc: Global,
     bodies: &Bodies,

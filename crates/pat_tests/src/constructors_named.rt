@@ -6,17 +6,21 @@ const FOUND: [Row; 11] = [
     ("T", "()", "T: numbered (u8, bool)"),
     ("P", "()", "P: named (x: u8, y: bool)"),
     ("P { .. }", "()", "P: named (x: u8, y: bool)"),
-    ("W", "()", "W of 1 type: named (v: T0)"),
+    ("W", "()", "W of 1 type: named (v: parameter 0)"),
     ("R", "()", "R of 1 lifetime: named (r: &mut P)"),
     ("None", "()", "Option::None of 1 type: unit ()"),
-    ("Some(x)", "()", "Option::Some of 1 type: numbered (T0)"),
+    (
+        "Some(x)",
+        "()",
+        "Option::Some of 1 type: numbered (parameter 0)",
+    ),
     (
         "Option::Some",
         "()",
-        "Option::Some of 1 type: numbered (T0)",
+        "Option::Some of 1 type: numbered (parameter 0)",
     ),
     ("E::C", "()", "E::C: named (n: u8)"),
-    ("Or::R", "()", "Or::R of 2 types: numbered (T1)"),
+    ("Or::R", "()", "Or::R of 2 types: numbered (parameter 1)"),
 ];
 
 #[test]

@@ -74,7 +74,7 @@ fn push_ty(words: Words<'_>, out: &mut String, ty: &Ty) -> Result<(), AllocError
         TyNode::Bool => out.push_str("bool"),
         TyNode::MathInt => out.push_str("Int"),
         TyNode::Tuple(parts) => push_types(words, out, ("(", ")"), parts),
-        TyNode::Param(number) => write!(out, "T{number}"),
+        TyNode::Param(number) => write!(out, "parameter {number}"),
         TyNode::Compound(parts) => push_compound(words, out, parts),
     }
 }
