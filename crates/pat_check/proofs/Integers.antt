@@ -11,10 +11,10 @@ use Rattle.pat_check.specs.KnownTypes.{AllAmong}
 use Rattle.pat_check.specs.Settled.{first_integer, is_past}
 use Rattle.pat_check.specs.Typed.{is_integer}
 
-at_most_true : (x y : ℤ) → int_le x y ≡ true → x ≤ℤ y
+pub at_most_true : (x y : ℤ) → int_le x y ≡ true → x ≤ℤ y
 at_most_true x y e = grind (arith, ints)
 
-different : (x y : ℤ) → int_eq x y ≡ false → (x ≡ y → ⊥)
+pub different : (x y : ℤ) → int_eq x y ≡ false → (x ≡ y → ⊥)
 different x y e f = grind (arith, ints)
 
 -- the integers from lo up to below hi are among these

@@ -4,6 +4,8 @@ pub mod Branching
 pub mod Building
 pub mod Counts
 pub mod Filling
+pub mod FlatIntegers
+pub mod FlatTrees
 pub mod Going
 pub mod Integers
 pub mod Left

@@ -24,7 +24,7 @@ integer_branches_one k q c z zs ks ls a b = ⊎_elim
     clash : {P : Type 0} → AllAmong c zs → SomeLeft c zs → P
     clash all (y, is, none) = absurd (let f = all y is in cc)
 
-branches_one : (ds : List AdtDecl) (k : Known) (q : List PatStep) (w : Test) (ks ls : List Known) → AreBranches ds k q w ks → AreBranches ds k q w ls → ks ≡ ls
+pub branches_one : (ds : List AdtDecl) (k : Known) (q : List PatStep) (w : Test) (ks ls : List Known) → AreBranches ds k q w ks → AreBranches ds k q w ls → ks ≡ ls
 branches_one ds k q (by.Made Tuple n) ks ls a b = a ∙ sym b
 branches_one ds k q (by.Made (Variant d j) n) ks ls a b = a ∙ sym b
 branches_one ds k q (by.Made (Closure c) n) ks ls a b = a ∙ sym b
@@ -65,7 +65,7 @@ Looks ds ps k D no_row = ⊥
 Looks ds ps k D (row n p) = D ≡ leaf n (bindings p)
 Looks ds ps k D (test q w) = (ks : List Known) × (Ds : List Decision) × AreBranches ds k q w ks × AreTrees ds ps ks Ds × IsNode ds q w Ds D
 
-looks : (ds : List AdtDecl) (ps : List Pat) (k : Known) (D : Decision) → IsTree ds ps k D → Looks ds ps k D (next 0 ps k)
+pub looks : (ds : List AdtDecl) (ps : List Pat) (k : Known) (D : Decision) → IsTree ds ps k D → Looks ds ps k D (next 0 ps k)
 looks ds ps k D (is_leaf {k = k1} {n} {p} e) = subst (Looks ds ps k D) (sym e) refl
 looks ds ps k D (is_node {k = k1} {q} {w} {ks} {Ds} {D = subtree} e are trees node) = subst (Looks ds ps k D) (sym e) (ks, Ds, are, trees, node)
 
@@ -73,7 +73,7 @@ abbrev pub LooksAll : List AdtDecl → List Pat → List Known → List Decision
 LooksAll ds ps [] Ds = Ds ≡ []
 LooksAll ds ps (k ∷ ks) Ds = (D : Decision) × (Es : List Decision) × (Ds ≡ D ∷ Es) × IsTree ds ps k D × AreTrees ds ps ks Es
 
-looks_all : (ds : List AdtDecl) (ps : List Pat) (ks : List Known) (Ds : List Decision) → AreTrees ds ps ks Ds → LooksAll ds ps ks Ds
+pub looks_all : (ds : List AdtDecl) (ps : List Pat) (ks : List Known) (Ds : List Decision) → AreTrees ds ps ks Ds → LooksAll ds ps ks Ds
 looks_all ds ps ks Ds no_trees = refl
 looks_all ds ps ks Ds (and_tree {k = x} {ks = xs} {D = subtree} {Ds = Es} tree trees) = (subtree, Es, refl, tree, trees)
 

@@ -4,6 +4,8 @@ pub mod DecisionCode
 pub mod DecisionFalls
 pub mod DecisionView
 pub mod Findings
+pub mod Flat
+pub mod Kinds
 pub mod Known
 pub mod KnownCode
 pub mod KnownFalls

@@ -43,3 +43,14 @@ NamesAreDistinct = (ds : List AdtDecl) (p : Written) (t : Ty) (a : Pat × List B
 
 abbrev pub NamesAreListed : Type 0
 NamesAreListed = (ds : List AdtDecl) (p : Written) (t : Ty) (a : Pat × List BoundName) → pattern_typed ds p t ≡ Ok a → BindsAmong a.1 a.0
+
+-- a pattern without parts binds its own name and no other, with the type of its variable at a value of this type, or none
+abbrev pub BindsAlone : Ty → Pat → List BoundName → Type 0
+BindsAlone t (wild u) xs = xs ≡ []
+BindsAlone t (bound u x k) xs = (y : BoundName) × (xs ≡ y ∷ []) × (y.ty ≡ bound_ty k t)
+BindsAlone t (literal u k z) xs = xs ≡ []
+BindsAlone t (truth u b) xs = xs ≡ []
+BindsAlone t (shape u c ps) xs = Unit {0}
+
+abbrev pub NamesStandAlone : Type 0
+NamesStandAlone = (ds : List AdtDecl) (p : Written) (t : Ty) (a : Pat × List BoundName) → pattern_typed ds p t ≡ Ok a → BindsAlone t a.0 a.1

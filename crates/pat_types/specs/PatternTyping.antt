@@ -6,7 +6,6 @@ use Rattle.text_core.specs.declared.name.Name.{Name}
 use Rattle.text_core.specs.declared.refusal.SourceError.{SourceError}
 use Rattle.text_core.specs.declared.span.Span.{Span}
 use Rattle.source_kinds.specs.declared.kinds.IntKind.{IntKind}
-use Rattle.source_kinds.specs.declared.kinds.IntKind.TheVariants.{I8, I16, I32, I64, Isize, U8, U16, U32, U64, Usize}
 use Rattle.source_kinds.specs.Range.{fits}
 use Rattle.logic_term.specs.declared.declaration.AdtDecl.{AdtDecl}
 use Rattle.logic_term.specs.declared.declaration.FieldDecl.{FieldDecl}
@@ -27,6 +26,7 @@ use Rattle.source_trees.specs.declared.path.PathNode.{PathNode}
 use Rattle.source_trees.specs.declared.path.PathNode.TheVariants.{Names}
 use Rattle.source_trees.specs.declared.path.Segment.{Segment}
 use Rattle.source_trees.specs.Pat as P
+pub use Rattle.pat_check.specs.Kinds.{same_int}
 use Rattle.constructors.specs.Constructors.{Constructor, constructor_named, constructor_of, same_kind}
 use Rattle.pat_types.specs.declared.names.BoundName.{BoundName}
 use Rattle.pat_types.specs.Answers.{◌>>=◌, unbuilt, unknown_name, mismatch, double_name}
@@ -78,19 +78,6 @@ binds_mutable Value s t xs x = binds Value true t xs x
 binds_mutable m s t xs x = Err (unbuilt s)
 
 -- ---- literals
-
-abbrev pub same_int : IntKind → IntKind → Bool
-same_int I8 I8 = true
-same_int I16 I16 = true
-same_int I32 I32 = true
-same_int I64 I64 = true
-same_int Isize Isize = true
-same_int U8 U8 = true
-same_int U16 U16 = true
-same_int U32 U32 = true
-same_int U64 U64 = true
-same_int Usize Usize = true
-same_int _ _ = false
 
 -- whether an integer with this type at its end, if it has one, may be of the type
 abbrev pub may_be : IntKind → Option IntKind → Bool

@@ -3,10 +3,11 @@ ghost use Rattle.std.specs.Prelude.{◌≡◌, ◌&&◌, IfOk};
 ghost use Rattle.source_kinds.specs.Range.{fits};
 ghost use Rattle.logic_term.specs.PatternView.{pat_of};
 ghost use Rattle.pat_types.specs.Answers.{Answers};
-ghost use Rattle.pat_types.specs.PatternTyping.{integer_at, may_be, same_int, truth_at};
+ghost use Rattle.pat_types.specs.PatternTyping.{integer_at, may_be, truth_at};
 
 use crate::refusal::mismatch;
 use logic_term::{PatNode, Ty, TyNode, TypedPat};
+use pat_check::same_int;
 use source_kinds::IntKind;
 use std::alloc::Global;
 use text_core::{NoMemory, PassError, Span};
@@ -20,24 +21,6 @@ pub(crate) fn pattern_of(alloc: Global, ty: &Ty, node: PatNode) -> Result<TypedP
         ty,
         node: Box::new(alloc, node)?,
     })
-}
-
-fn same_int(one: IntKind, other: IntKind) -> bool
-    ensures { result ≡ same_int one other }
-{
-    matches!(
-        (one, other),
-        (IntKind::I8, IntKind::I8)
-            | (IntKind::I16, IntKind::I16)
-            | (IntKind::I32, IntKind::I32)
-            | (IntKind::I64, IntKind::I64)
-            | (IntKind::Isize, IntKind::Isize)
-            | (IntKind::U8, IntKind::U8)
-            | (IntKind::U16, IntKind::U16)
-            | (IntKind::U32, IntKind::U32)
-            | (IntKind::U64, IntKind::U64)
-            | (IntKind::Usize, IntKind::Usize)
-    )
 }
 
 /// Whether an integer with this type at its end, if it has one, may be of the kind.
