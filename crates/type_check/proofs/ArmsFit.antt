@@ -10,6 +10,7 @@ use Rattle.logic_term.specs.Ty.{Ty}
 use Rattle.source_trees.specs.Pat.{Pat as Written}
 use Rattle.pat_types.specs.declared.names.BoundName.{BoundName}
 use Rattle.pat_types.specs.PatternTyping.{pattern_typed}
+use Rattle.pat_types.proofs.Alone.{names_alone}
 use Rattle.pat_types.proofs.Fitting.{fits}
 use Rattle.pat_types.proofs.Listed.{lists}
 use Rattle.type_check.specs.declared.scope.Variable.{Variable}
@@ -49,7 +50,7 @@ pub pattern_fits : (ds : List AdtDecl) (u : Ty) (w : Written) (b : Binding) → 
 pattern_fits ds u w b p =
     let h = (typed_at ds u w b p).0 in
     let l = lists ds Value [] w u b tt h in
-    record { matches = fits ds Value [] w u b h; binds = l.binds; distinct = l.distinct }
+    record { matches = fits ds Value [] w u b h; binds = l.binds; distinct = l.distinct; alone = names_alone ds Value w u b h }
 
 -- ---- the scope of an arm
 
@@ -143,7 +144,7 @@ anything u e = record { pattern = wild u; names = []; body = e }
 
 anything_meets : (σ : Setting) (Γ : List Variable) (u : Ty) (t : Option Ty) (e : TypedExpr) → Sound σ Γ t e → Meeting σ Γ u t (anything u e)
 anything_meets σ Γ u t e h = record {
-  pattern = record { matches = tt; binds = tt; distinct = tt };
+  pattern = record { matches = tt; binds = tt; distinct = tt; alone = refl };
   body = subst (λ Δ. Sound σ Δ t e) (sym (append-nil Γ)) h;
 }
 

@@ -10,6 +10,7 @@ pub mod Chains
 pub mod Dropped
 pub mod FieldParts
 pub mod Fits
+pub mod FlatMatches
 pub mod FoundParts
 pub mod InLoops
 pub mod Lookups
@@ -17,6 +18,7 @@ pub mod Makers
 pub mod PartByPart
 pub mod Parts
 pub mod Refusing
+pub mod ScalarTypes
 pub mod Sound
 pub mod Speaking
 pub mod StatementLists

@@ -3,8 +3,8 @@ use Rattle.std.proofs.Common.{◌≡◌, ◌&&◌, Bool, true, false, List, [], 
 use Rattle.text_core.specs.declared.span.Span.{Span}
 use Rattle.logic_term.specs.Ty.{Ty, int, bool, tuple, no_tys}
 use Rattle.type_check.specs.declared.program.TypedFunction.{TypedFunction}
-use Rattle.type_check.specs.Plain.{IsScalar, AllScalar, IsPlain, StatementsArePlain, ArePlain, FunctionIsPlain, EachIsPlain}
-use Rattle.type_check.specs.TypedExpr.{TypedExpr, TypedStmts, TypedExprs, integer, truth, variable, negative, denied, cast, binary, lazy, assign, update, call, make, part, block, branch, choice, matched, repeat, panics, returned, endless, until_break, break_off, go_on, done, last, leaving, bind, run, none, more}
+use Rattle.type_check.specs.Plain.{IsScalar, AllScalar, IsPlain, StatementsArePlain, ArePlain, ArmsArePlain, FunctionIsPlain, EachIsPlain}
+use Rattle.type_check.specs.TypedExpr.{TypedExpr, TypedStmts, TypedExprs, integer, truth, variable, negative, denied, cast, binary, lazy, assign, update, call, make, part, block, branch, choice, matched, repeat, panics, returned, endless, until_break, break_off, go_on, done, last, leaving, bind, run, none, more, TypedArms, no_arms, with_arm}
 use Rattle.type_check.specs.Unrun.{are_scalar, earlier, is_scalar, unless, unrun_among, unrun_function, unrun_in, unrun_in_arms, unrun_in_statements, unrun_of}
 
 -- ---- types
@@ -89,7 +89,7 @@ mutual
       let n = neither (unrun_in c) (earlier (unrun_in a) (earlier (unrun_in b) (unless (is_scalar t) s))) p in
       let m = two t s (unrun_in a) (unrun_in b) n.1 in
       (m.0, plain_expr c n.0, plain_expr a m.1, plain_expr b m.2)
-  plain_expr (matched t s e as') p = never (unrun_in_arms as') s (neither (unrun_in e) (earlier (unrun_in_arms as') (Some s)) p).1
+  plain_expr (matched t s e as') p = let n = two t s (unrun_in e) (unrun_in_arms as') p in (n.0, plain_expr e n.1, plain_arms as' n.2)
   plain_expr (repeat t s is c b) p = let n = two t s (unrun_in c) (unrun_in b) p in (n.0, plain_expr c n.1, plain_expr b n.2)
   plain_expr (panics t s k) p = scalar_of t s p
   plain_expr (returned t s e) p = let n = neither (unrun_in e) (unless (is_scalar t) s) p in (scalar_of t s n.1, plain_expr e n.0)
@@ -108,6 +108,10 @@ mutual
   plain_exprs : (es : TypedExprs) → unrun_among es ≡ None → ArePlain es
   plain_exprs none p = tt
   plain_exprs (more e es) p = let n = neither (unrun_in e) (unrun_among es) p in (plain_expr e n.0, plain_exprs es n.1)
+
+  plain_arms : (as' : TypedArms) → unrun_in_arms as' ≡ None → ArmsArePlain as'
+  plain_arms no_arms p = tt
+  plain_arms (with_arm q xs e as') p = let n = neither (unrun_in e) (unrun_in_arms as') p in (plain_expr e n.0, plain_arms as' n.1)
 
 mutual
   expr_runs : (e : TypedExpr) → IsPlain e → unrun_in e ≡ None
@@ -128,7 +132,7 @@ mutual
   expr_runs (branch t s c a) h = no_three t s (unrun_in c) (unrun_in a) h.0 (expr_runs c h.1) (expr_runs a h.2)
   expr_runs (choice t s c a b) h =
       no_two (unrun_in c) (earlier (unrun_in a) (earlier (unrun_in b) (unless (is_scalar t) s))) (expr_runs c h.1) (no_three t s (unrun_in a) (unrun_in b) h.0 (expr_runs a h.2) (expr_runs b h.3))
-  expr_runs (matched t s e as') h = absurd h
+  expr_runs (matched t s e as') h = no_three t s (unrun_in e) (unrun_in_arms as') h.0 (expr_runs e h.1) (arms_run as' h.2)
   expr_runs (repeat t s is c b) h = no_three t s (unrun_in c) (unrun_in b) h.0 (expr_runs c h.1) (expr_runs b h.2)
   expr_runs (panics t s k) h = runs_of t s h
   expr_runs (returned t s e) h = no_two (unrun_in e) (unless (is_scalar t) s) (expr_runs e h.1) (runs_of t s h.0)
@@ -147,6 +151,10 @@ mutual
   exprs_run : (es : TypedExprs) → ArePlain es → unrun_among es ≡ None
   exprs_run none h = refl
   exprs_run (more e es) h = no_two (unrun_in e) (unrun_among es) (expr_runs e h.0) (exprs_run es h.1)
+
+  arms_run : (as' : TypedArms) → ArmsArePlain as' → unrun_in_arms as' ≡ None
+  arms_run no_arms h = refl
+  arms_run (with_arm q xs e as') h = no_two (unrun_in e) (unrun_in_arms as') (expr_runs e h.0) (arms_run as' h.1)
 
 -- ---- functions
 

@@ -1,22 +1,14 @@
 -- What does not run in typed blocks and calls, part by part.
-use Rattle.std.proofs.Common.{◌≡◌, ◌∙◌, ◌==◌, ℕ, suc, ◌+◌, ◌<◌, Bool, true, false, List, [], ◌∷◌, length, get_or, drop, drop-cons, add-one, arith, refl, ap, sym, Option, Some, None}
-use Rattle.std.proofs.lemmas.Bool.Decides.{nat_tests}
+use Rattle.std.proofs.Common.{◌≡◌, ◌∙◌, ℕ, suc, ◌+◌, ◌<◌, Bool, true, false, List, [], ◌∷◌, length, get_or, drop, drop-cons, add-one, refl, ap, sym, Option, Some, None}
 use Rattle.text_core.specs.declared.span.Span.{Span}
-use Rattle.logic_term.specs.Ty.{Ty, tuple}
-use Rattle.logic_term.specs.TyView.{tys_of}
 use Rattle.type_check.specs.declared.typed.TypedArm.{TypedArm}
 use Rattle.type_check.specs.declared.typed.TypedStmt.{TypedStmt}
 use Rattle.type_check.specs.TypedExpr.{TypedExpr, TypedStmts, done, last, leaving}
 use Rattle.type_check.specs.TypedExprFalls.{each_smaller}
 use Rattle.type_check.specs.TypedExprView.{arms_of, exprs_of, stmt_of, stmts_of}
-use Rattle.type_check.specs.Unrun.{earlier, is_scalar, unrun_among, unrun_in, unrun_in_arms, unrun_in_statements}
+use Rattle.type_check.specs.Unrun.{earlier, unrun_among, unrun_in, unrun_in_arms, unrun_in_statements}
 use Rattle.type_check.proofs.ArmParts.{arm_smaller}
 use Rattle.type_check.proofs.TypedParts.{begin_smaller, last_smaller, leaving_smaller, stmt_smaller}
-
--- the tuple of no parts
-pub empty_parts : (ts : List Ty) → (length ts == 0) ≡ is_scalar (tuple (tys_of ts))
-empty_parts [] = refl
-empty_parts (t ∷ ts) = grind (arith, nat_tests)
 
 pub joined : (a b c : Option Span) → earlier a (earlier b c) ≡ earlier (earlier a b) c
 joined (Some s) b c = refl

@@ -1,6 +1,6 @@
 -- What a source is refused for, how parts come one after another, and how the code's answers stand for what a definition comes to.
 use Rattle.std.specs.Prelude.{List, [], ◌∷◌, Option, Some, None, Result, Ok, Err}
-use Rattle.text_core.specs.declared.refusal.Code.TheVariants.{E22}
+use Rattle.text_core.specs.declared.refusal.Code.TheVariants.{E11, E22}
 use Rattle.text_core.specs.declared.refusal.SourceError.{SourceError}
 use Rattle.text_core.specs.declared.span.Span.{Span}
 pub use Rattle.constructors.specs.Answers.{AnswersAs, double_name, or_else, with_some}
@@ -10,6 +10,9 @@ pub use Rattle.logic_elab.specs.Answers.{◌>>=◌, unknown_name, mismatch, unbu
 
 abbrev pub not_mutable : Span → SourceError
 not_mutable s = record { code = E22; span = s; other = None }
+
+abbrev pub uncovered_match : Span → SourceError
+uncovered_match s = record { code = E11; span = s; other = None }
 
 -- ---- one part after another
 

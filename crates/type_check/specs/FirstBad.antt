@@ -1,13 +1,21 @@
--- The first formula or match that is refused: in a function its clauses stand before its body, and an expression's parts before it. No match is lowered so
--- far, so each is refused as not built, where all expressions have types.
-use Rattle.std.specs.Prelude.{List, [], ◌∷◌, Option, Some, None}
+-- The first formula or match that is refused: in a function its clauses stand before its body, and an expression's parts before it. A flat match, of a value
+-- of a scalar type by flat patterns, is lowered, and refused where its patterns do not cover the type; each other match is refused as not built, where all
+-- expressions have types.
+use Rattle.std.specs.Prelude.{◌&&◌, List, [], ◌∷◌, Option, Some, None, if◌then◌else◌}
 use Rattle.text_core.specs.declared.refusal.SourceError.{SourceError}
+use Rattle.text_core.specs.declared.span.Span.{Span}
+use Rattle.logic_term.specs.Pattern.{Pat}
+use Rattle.logic_term.specs.Ty.{Ty}
+use Rattle.pat_check.specs.Decision.{Decision}
+use Rattle.pat_check.specs.Flat.{all_flat, flat_tree}
 use Rattle.type_check.specs.declared.assertion.Assertion.{Assertion}
 use Rattle.type_check.specs.declared.assertion.Assertion.TheVariants.{Good, Bad}
 use Rattle.type_check.specs.declared.program.TypedClause.{TypedClause}
 use Rattle.type_check.specs.declared.program.TypedFunction.{TypedFunction}
-use Rattle.type_check.specs.Answers.{or_else, unbuilt}
+use Rattle.type_check.specs.Answers.{or_else, unbuilt, uncovered_match}
+use Rattle.type_check.specs.Scalars.{is_scalar}
 use Rattle.type_check.specs.TypedExpr.{TypedExpr, TypedStmts, TypedExprs, integer, truth, variable, negative, denied, cast, binary, lazy, assign, update, call, make, part, block, branch, choice, matched, repeat, panics, returned, endless, until_break, break_off, go_on, done, last, leaving, bind, run, none, more, TypedArms, no_arms, with_arm}
+use Rattle.type_check.specs.TypedExprView.{patterns_of, ty_of}
 
 abbrev pub bad_of : Assertion → Option SourceError
 bad_of (Good s t) = None
@@ -16,6 +24,15 @@ bad_of (Bad e) = Some e
 abbrev pub bad_among : List Assertion → Option SourceError
 bad_among [] = None
 bad_among (a ∷ as') = or_else (bad_of a) (bad_among as')
+
+-- where the patterns have no tree
+abbrev pub uncovered : Span → Option Decision → Option SourceError
+uncovered s None = Some (uncovered_match s)
+uncovered s (Some D) = None
+
+-- of a match at s, of a value of type t by these patterns
+abbrev pub match_refusal : Span → Ty → List Pat → Option SourceError
+match_refusal s t ps = if is_scalar t && all_flat t ps then uncovered s (flat_tree t ps) else Some (unbuilt s)
 
 abbrev mutual
   pub bad_in : TypedExpr → Option SourceError
@@ -35,8 +52,7 @@ abbrev mutual
   bad_in (block t s ss) = bad_in_stmts ss
   bad_in (branch t s c a) = or_else (bad_in c) (bad_in a)
   bad_in (choice t s c a b) = or_else (bad_in c) (or_else (bad_in a) (bad_in b))
-  -- which is not lowered so far, and so is refused itself
-  bad_in (matched t s e as') = or_else (bad_in e) (or_else (bad_in_arms as') (Some (unbuilt s)))
+  bad_in (matched t s e as') = or_else (bad_in e) (or_else (bad_in_arms as') (match_refusal s (ty_of e) (patterns_of as')))
   bad_in (repeat t s is c b) = or_else (bad_among is) (or_else (bad_in c) (bad_in b))
   bad_in (panics t s k) = None
   bad_in (returned t s e) = bad_in e

@@ -13,6 +13,7 @@ pub mod Leaves
 pub mod Literals
 pub mod Plain
 pub mod Rules
+pub mod Scalars
 pub mod Scope
 pub mod Setting
 pub mod Terms

@@ -1,10 +1,10 @@
--- Programs over integers, truth values and unit alone, which are those that run so far: what is proved of their bodies speaks of them. Tuples have types
--- and bodies, and wait for the machine's trees.
+-- Programs over integers, truth values and unit alone, which are those that run so far: what is proved of their bodies speaks of them. Matches of such values
+-- are among them, by flat patterns, since no other match is accepted. Tuples have types and bodies, and wait for the machine's trees.
 use Rattle.std.specs.Prelude.{List, [], ◌∷◌}
 use Rattle.logic_term.specs.Ty.{Ty, int, bool, tuple, no_tys}
 use Rattle.type_check.specs.declared.program.TypedFunction.{TypedFunction}
 use Rattle.type_check.specs.declared.program.TypedProgram.{TypedProgram}
-use Rattle.type_check.specs.TypedExpr.{TypedExpr, TypedStmts, TypedExprs, integer, truth, variable, negative, denied, cast, binary, lazy, assign, update, call, make, part, block, branch, choice, matched, repeat, panics, returned, endless, until_break, break_off, go_on, done, last, leaving, bind, run, none, more}
+use Rattle.type_check.specs.TypedExpr.{TypedExpr, TypedStmts, TypedExprs, integer, truth, variable, negative, denied, cast, binary, lazy, assign, update, call, make, part, block, branch, choice, matched, repeat, panics, returned, endless, until_break, break_off, go_on, done, last, leaving, bind, run, none, more, TypedArms, no_arms, with_arm}
 
 -- the machine integers, the truth values and unit
 abbrev pub IsScalar : Ty → Type 0
@@ -17,7 +17,7 @@ abbrev pub AllScalar : List Ty → Type 0
 AllScalar [] = Unit {0}
 AllScalar (t ∷ ts) = IsScalar t × AllScalar ts
 
--- each part is of such a type, and none is made of others, is a part of another or is matched
+-- each part is of such a type, and none is made of others or is a part of another
 abbrev mutual
   pub IsPlain : TypedExpr → Type 0
   IsPlain (integer t s z k) = IsScalar t
@@ -36,7 +36,7 @@ abbrev mutual
   IsPlain (block t s ss) = IsScalar t × StatementsArePlain ss
   IsPlain (branch t s c a) = IsScalar t × IsPlain c × IsPlain a
   IsPlain (choice t s c a b) = IsScalar t × IsPlain c × IsPlain a × IsPlain b
-  IsPlain (matched t s e as') = ⊥
+  IsPlain (matched t s e as') = IsScalar t × IsPlain e × ArmsArePlain as'
   IsPlain (repeat t s is c b) = IsScalar t × IsPlain c × IsPlain b
   IsPlain (panics t s k) = IsScalar t
   IsPlain (returned t s e) = IsScalar t × IsPlain e
@@ -55,6 +55,10 @@ abbrev mutual
   pub ArePlain : TypedExprs → Type 0
   ArePlain none = Unit {0}
   ArePlain (more e es) = IsPlain e × ArePlain es
+
+  pub ArmsArePlain : TypedArms → Type 0
+  ArmsArePlain no_arms = Unit {0}
+  ArmsArePlain (with_arm p xs e as') = IsPlain e × ArmsArePlain as'
 
 pub record FunctionIsPlain (f : TypedFunction) : Type 0 where
   pub params : AllScalar f.signature.params

@@ -1,6 +1,7 @@
--- The expressions that nodes stand for, how deep expressions are, and their types and spans.
+-- The expressions that nodes stand for, how deep expressions are, their types and spans, and the patterns of arms.
 use Rattle.std.specs.Prelude.{ℕ, suc, max, Bool, true, false, List, [], ◌∷◌}
 use Rattle.text_core.specs.declared.span.Span.{Span}
+use Rattle.logic_term.specs.Pattern.{Pat}
 use Rattle.logic_term.specs.Ty.{Ty}
 use Rattle.type_check.specs.TypedExpr.{TypedExpr, integer, truth, variable, negative, denied, cast, binary, lazy, assign, update, call, make, part, block, branch, choice, matched, repeat, panics, returned, endless, until_break, break_off, go_on, TypedStmts, done, last, leaving, bind, run, TypedExprs, none, more, TypedArms, no_arms, with_arm}
 use Rattle.type_check.specs.declared.typed.TypedArm.{TypedArm}
@@ -146,3 +147,8 @@ span_of (endless t s a0 a1) = s
 span_of (until_break t s a0 a1) = s
 span_of (break_off t s) = s
 span_of (go_on t s) = s
+
+-- in their order
+abbrev pub patterns_of : TypedArms → List Pat
+patterns_of no_arms = []
+patterns_of (with_arm p xs e as') = p ∷ patterns_of as'

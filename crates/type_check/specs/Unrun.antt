@@ -2,18 +2,12 @@
 -- its body, and an expression stands behind its parts.
 use Rattle.std.specs.Prelude.{Bool, true, false, ◌&&◌, List, [], ◌∷◌, Option, Some, None}
 use Rattle.text_core.specs.declared.span.Span.{Span}
-use Rattle.logic_term.specs.Ty.{Ty, int, bool, tuple, no_tys}
+use Rattle.logic_term.specs.Ty.{Ty}
 use Rattle.type_check.specs.declared.program.TypedFunction.{TypedFunction}
 use Rattle.type_check.specs.declared.program.TypedProgram.{TypedProgram}
+pub use Rattle.type_check.specs.Scalars.{is_scalar}
 use Rattle.type_check.specs.TypedExpr.{TypedExpr, TypedStmts, TypedExprs, integer, truth, variable, negative, denied, cast, binary, lazy, assign, update, call, make, part, block, branch, choice, matched, repeat, panics, returned, endless, until_break, break_off, go_on, done, last, leaving, bind, run, none, more, TypedArms, no_arms, with_arm}
 use Rattle.type_check.specs.TypedExprView.{ty_of, span_of}
-
--- the machine integers, the truth values and unit
-abbrev pub is_scalar : Ty → Bool
-is_scalar (int k) = true
-is_scalar bool = true
-is_scalar (tuple no_tys) = true
-is_scalar _ = false
 
 abbrev pub are_scalar : List Ty → Bool
 are_scalar [] = true
@@ -29,11 +23,11 @@ abbrev pub unless : Bool → Span → Option Span
 unless true s = None
 unless false s = Some s
 
--- whether an expression runs where its parts do: it makes no value of others, takes none apart, matches none, and its own is of such a type
+-- whether an expression runs where its parts do: it makes no value of others, takes none apart, and its own is of such a type
 abbrev pub runs : TypedExpr → Bool
 runs (make t s c es) = false
 runs (part t s e n) = false
-runs (matched t s e as') = false
+runs (matched t s e as') = is_scalar t
 runs e = is_scalar (ty_of e)
 
 abbrev pub own_place : TypedExpr → Option Span
@@ -57,7 +51,7 @@ abbrev mutual
   unrun_in (block t s ss) = earlier (unrun_in_statements ss) (unless (is_scalar t) s)
   unrun_in (branch t s c a) = earlier (unrun_in c) (earlier (unrun_in a) (unless (is_scalar t) s))
   unrun_in (choice t s c a b) = earlier (unrun_in c) (earlier (unrun_in a) (earlier (unrun_in b) (unless (is_scalar t) s)))
-  unrun_in (matched t s e as') = earlier (unrun_in e) (earlier (unrun_in_arms as') (Some s))
+  unrun_in (matched t s e as') = earlier (unrun_in e) (earlier (unrun_in_arms as') (unless (is_scalar t) s))
   unrun_in (repeat t s is c b) = earlier (unrun_in c) (earlier (unrun_in b) (unless (is_scalar t) s))
   unrun_in (panics t s k) = unless (is_scalar t) s
   unrun_in (returned t s e) = earlier (unrun_in e) (unless (is_scalar t) s)

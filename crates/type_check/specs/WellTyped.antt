@@ -20,7 +20,7 @@ use Rattle.logic_term.specs.Theory.{declared}
 use Rattle.logic_term.specs.Ty.{Ty, Tys, int, bool, tuple, adt, boxed, no_tys, and_ty, unit_ty}
 use Rattle.pat_check.specs.Typed.{IsPat, fields_in}
 use Rattle.pat_types.specs.declared.names.BoundName.{BoundName}
-use Rattle.pat_types.specs.Laws.{AreDistinct, BindsAmong}
+use Rattle.pat_types.specs.Laws.{AreDistinct, BindsAmong, BindsAlone}
 pub use Rattle.type_parts.specs.Parts.{field_at, struct_fields}
 use Rattle.type_check.specs.declared.program.ClauseKind.{ClauseKind}
 use Rattle.type_check.specs.declared.program.ClauseKind.TheVariants.{Requires, Ensures}
@@ -87,6 +87,8 @@ pub record PatternFits (ds : List AdtDecl) (t : Ty) (p : Pat) (xs : List BoundNa
   pub matches : IsPat (fields_in ds) p t
   pub binds : BindsAmong xs p
   pub distinct : AreDistinct xs
+  -- without parts it binds no other name
+  pub alone : BindsAlone t p xs
 
 abbrev pub tys_bound : List BoundName → List Ty
 tys_bound xs = map (λ (x : BoundName). x.ty) xs

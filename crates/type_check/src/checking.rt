@@ -216,7 +216,7 @@ fn passes(alloc: Global, types: &AdtTable, items: &[Item]) -> Result<TypedProgra
 {
     let headings = headings_of(alloc, types, items)?;
     let typed = type_items(alloc, types, headings.as_slice(), items)?;
-    if let Some(error) = first_bad(typed.as_slice()) {
+    if let Some(error) = first_bad(alloc, typed.as_slice())? {
         return Err(PassError::Source(error));
     }
     Ok(TypedProgram {
@@ -229,7 +229,8 @@ fn passes(alloc: Global, types: &AdtTable, items: &[Item]) -> Result<TypedProgra
 /// Errors: passes that each go over all items before the next begins; each refuses the first failing part of the first
 /// failing item. E20 at what an item declares that is not built: what is refused by `declare` is not looked for. Then, of bodies and contracts, E20 at a form that is not built, and of bodies E05 at a name that is
 /// not declared, E07 where a type is not the one wanted, and E22 at a variable that is written and not `mut`. Then E05,
-/// E07 and E20 of the terms of clauses and invariants. Never a limit. `NoMemory` also where a number of variables or
+/// E07 and E20 of the terms of clauses and invariants, and of matches, at the whole, E11 where the patterns of one do not
+/// cover the type of its value, and E20 at one that is not flat. Never a limit. `NoMemory` also where a number of variables or
 /// functions passes 32 bits.
 pub fn check(alloc: Global, items: &[Item], declared: &Declared) -> Result<TypedProgram, PassError>
     ensures answers { Answers result (checked declared.now.table items.now) }

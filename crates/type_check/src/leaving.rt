@@ -32,9 +32,10 @@ pub fn leaves(e: &TypedExpr) -> bool
     }
 }
 
+/// Whether the body of each arm leaves.
 #[cycle(leaves)]
 #[tactic(auto, using(crate::proofs::ArmParts::leaving_arms))]
-fn all_arms_leave(arms: &[TypedArm]) -> bool
+pub fn all_arms_leave(arms: &[TypedArm]) -> bool
     ensures { result ≡ all_arms_leave (arms_of arms.now) }
 {
     for i in 0..arms.len() {

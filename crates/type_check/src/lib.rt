@@ -8,6 +8,7 @@ mod calling;
 mod casting;
 mod chain;
 mod checking;
+mod covering;
 mod declaring;
 mod elaborate;
 mod expressions;
@@ -25,6 +26,7 @@ mod operands;
 mod program;
 mod refusal;
 mod running;
+mod scalars;
 mod scope;
 mod selecting;
 mod setting;
@@ -37,12 +39,13 @@ mod written;
 
 pub use assertion::Assertion;
 pub use checking::check;
+pub use covering::patterns_of;
 pub use elaborate::{answer_name, variable_name};
 pub use laws::{
     checked_programs_fit, expressions_are_typed_by_rules, programs_that_run_are_plain,
     refusals_have_causes, typed_expressions_fit,
 };
-pub use leaving::leaves;
+pub use leaving::{all_arms_leave, leaves};
 pub use program::{ClauseKind, Signature, TypedClause, TypedFunction, TypedProgram};
 pub use running::first_unrun;
 pub use typed::{TypedArm, TypedExpr, TypedNode, TypedStmt};

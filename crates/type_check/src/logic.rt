@@ -1,14 +1,17 @@
-ghost use Rattle.std.specs.Prelude.{◌≡◌, ◌≤◌, ◌<◌, ◌||◌, MatchOption};
+ghost use Rattle.std.specs.Prelude.{◌≡◌, ◌≤◌, ◌<◌, ◌||◌, MatchOption, IfOk};
 ghost use Rattle.type_check.specs.Breaks.{breaks};
-ghost use Rattle.type_check.specs.FirstBad.{bad_of, bad_among, bad_in, bad_in_stmts, bad_in_exprs, bad_in_arms, bad_clause, bad_in_function, first_bad};
-ghost use Rattle.type_check.specs.Answers.{or_else, unbuilt};
+ghost use Rattle.type_check.specs.FirstBad.{bad_of, bad_among, bad_in, bad_in_stmts, bad_in_exprs, bad_in_arms, bad_clause, bad_in_function, first_bad, match_refusal};
+ghost use Rattle.type_check.specs.Answers.{or_else};
 ghost use Rattle.type_check.specs.TypedExpr.{done};
-ghost use Rattle.type_check.specs.TypedExprView.{arms_of, exprs_of, stmts_of, typed_size};
+ghost use Rattle.type_check.specs.TypedExprView.{arms_of, exprs_of, patterns_of, stmts_of, ty_of, typed_size};
 
 use crate::assertion::Assertion;
+use crate::covering::match_refusal;
 use crate::program::{TypedClause, TypedFunction};
 use crate::typed::{TypedArm, TypedExpr, TypedNode, TypedStmt};
-use text_core::{Code, SourceError, Span};
+use crate::typing::ty_of;
+use std::alloc::Global;
+use text_core::{NoMemory, SourceError, Span};
 
 fn earlier(first: Option<SourceError>, second: Option<SourceError>) -> Option<SourceError>
     ensures { result ≡ or_else first second }
@@ -35,17 +38,6 @@ fn bad_among(assertions: &[Assertion]) -> Option<SourceError>
         }
     }
     None
-}
-
-/// A match is not lowered so far.
-fn not_built(span: Span) -> SourceError
-    ensures { result ≡ unbuilt span }
-{
-    SourceError {
-        code: Code::E20,
-        span,
-        other: None,
-    }
 }
 
 /// The operands of an operation.
@@ -77,102 +69,154 @@ pub(crate) fn cast_operand(e: &TypedExpr) -> &TypedExpr
     operand
 }
 
-/// The first refusal among the invariants in the expression. Left operands are gone down by a loop; what is found further left
+/// The first refusal of an invariant or a match in the expression. Left operands are gone down by a loop; what is found further left
 /// stands earlier.
 #[cycle(bad_in)]
-fn bad_in(e: &TypedExpr) -> Option<SourceError>
-    ensures { result ≡ bad_in e.now }
+fn bad_in(alloc: Global, e: &TypedExpr) -> Result<Option<SourceError>, NoMemory>
+    ensures { IfOk result (λ r. r ≡ bad_in e.now) }
 {
     let mut bottom = cast_operand(e);
     let mut found = None;
     while let Some((left, right)) = operands_of(bottom) {
-        found = earlier(bad_in(right), found);
+        found = earlier(bad_in(alloc, right)?, found);
         bottom = cast_operand(left);
     }
-    earlier(bad_in_form(bottom), found)
+    Ok(earlier(bad_in_form(alloc, bottom)?, found))
 }
 
-/// The same, each part by a call.
+/// The same of two expressions, one behind the other.
+#[cycle(bad_in)]
+fn bad_in_both(
+    alloc: Global,
+    first: &TypedExpr,
+    second: &TypedExpr,
+) -> Result<Option<SourceError>, NoMemory>
+    ensures { IfOk result (λ r. r ≡ or_else (bad_in first.now) (bad_in second.now)) }
+{
+    let bad = bad_in(alloc, first)?;
+    if bad.is_some() {
+        return Ok(bad);
+    }
+    bad_in(alloc, second)
+}
+
+/// The same of statements and the last one behind them.
+#[cycle(bad_in)]
+fn bad_in_block(
+    alloc: Global,
+    stmts: &[TypedStmt],
+    last: &TypedExpr,
+) -> Result<Option<SourceError>, NoMemory>
+    ensures { IfOk result (λ r. r ≡ or_else (bad_in_stmts (stmts_of stmts.now done)) (bad_in last.now)) }
+{
+    let bad = bad_in_stmts(alloc, stmts)?;
+    if bad.is_some() {
+        return Ok(bad);
+    }
+    bad_in(alloc, last)
+}
+
+/// The same of a match at the span.
+#[cycle(bad_in)]
+fn bad_in_match(
+    alloc: Global,
+    span: Span,
+    value: &TypedExpr,
+    arms: &[TypedArm],
+) -> Result<Option<SourceError>, NoMemory>
+    ensures { IfOk result (λ r. r ≡ or_else (bad_in value.now) (or_else (bad_in_arms (arms_of arms.now)) (match_refusal span (ty_of value.now) (patterns_of (arms_of arms.now))))) }
+{
+    let bad = bad_in(alloc, value)?;
+    if bad.is_some() {
+        return Ok(bad);
+    }
+    let bad = bad_in_arms(alloc, arms)?;
+    if bad.is_some() {
+        return Ok(bad);
+    }
+    match_refusal(alloc, span, ty_of(value), arms)
+}
+
+/// The same of an expression, each part by a call.
 #[cycle(bad_in)]
 #[tactic(auto, using(crate::proofs::TypedParts::typed_parts))]
-fn bad_in_form(e: &TypedExpr) -> Option<SourceError>
-    ensures { result ≡ bad_in e.now }
+fn bad_in_form(alloc: Global, e: &TypedExpr) -> Result<Option<SourceError>, NoMemory>
+    ensures { IfOk result (λ r. r ≡ bad_in e.now) }
 {
     match &*e.node {
-        TypedNode::Int(_, _) => None,
-        TypedNode::Truth(_) => None,
-        TypedNode::Variable(_) => None,
-        TypedNode::Neg(a) => bad_in(a),
-        TypedNode::Not(a) => bad_in(a),
-        TypedNode::Cast(a) => bad_in(a),
-        TypedNode::Binary(_, a, b) => earlier(bad_in(a), bad_in(b)),
-        TypedNode::Lazy(_, a, b) => earlier(bad_in(a), bad_in(b)),
-        TypedNode::Assign(a, b) => earlier(bad_in(a), bad_in(b)),
-        TypedNode::Update(_, a, b) => earlier(bad_in(a), bad_in(b)),
-        TypedNode::Call(_, args) => bad_in_exprs(args),
-        TypedNode::Make(_, parts) => bad_in_exprs(parts),
-        TypedNode::Part(a, _) => bad_in(a),
-        TypedNode::Block(stmts) => bad_in_stmts(stmts),
-        TypedNode::BlockWith(stmts, last) => earlier(bad_in_stmts(stmts), bad_in(last)),
-        TypedNode::BlockLeaving(stmts, last) => earlier(bad_in_stmts(stmts), bad_in(last)),
-        TypedNode::If(c, a) => earlier(bad_in(c), bad_in(a)),
-        TypedNode::IfElse(c, a, b) => earlier(bad_in(c), earlier(bad_in(a), bad_in(b))),
-        TypedNode::Match(value, arms) => earlier(
-            bad_in(value),
-            earlier(bad_in_arms(arms), Some(not_built(e.span))),
-        ),
+        TypedNode::Int(_, _) => Ok(None),
+        TypedNode::Truth(_) => Ok(None),
+        TypedNode::Variable(_) => Ok(None),
+        TypedNode::Neg(a) => bad_in(alloc, a),
+        TypedNode::Not(a) => bad_in(alloc, a),
+        TypedNode::Cast(a) => bad_in(alloc, a),
+        TypedNode::Binary(_, a, b) => bad_in_both(alloc, a, b),
+        TypedNode::Lazy(_, a, b) => bad_in_both(alloc, a, b),
+        TypedNode::Assign(a, b) => bad_in_both(alloc, a, b),
+        TypedNode::Update(_, a, b) => bad_in_both(alloc, a, b),
+        TypedNode::Call(_, args) => bad_in_exprs(alloc, args),
+        TypedNode::Make(_, parts) => bad_in_exprs(alloc, parts),
+        TypedNode::Part(a, _) => bad_in(alloc, a),
+        TypedNode::Block(stmts) => bad_in_stmts(alloc, stmts),
+        TypedNode::BlockWith(stmts, last) => bad_in_block(alloc, stmts, last),
+        TypedNode::BlockLeaving(stmts, last) => bad_in_block(alloc, stmts, last),
+        TypedNode::If(c, a) => bad_in_both(alloc, c, a),
+        TypedNode::IfElse(c, a, b) => Ok(earlier(bad_in(alloc, c)?, bad_in_both(alloc, a, b)?)),
+        TypedNode::Match(value, arms) => bad_in_match(alloc, e.span, value, arms),
         TypedNode::While(invariants, c, b) => {
-            earlier(bad_among(invariants), earlier(bad_in(c), bad_in(b)))
+            Ok(earlier(bad_among(invariants), bad_in_both(alloc, c, b)?))
         }
-        TypedNode::Panic(_) => None,
-        TypedNode::Return(a) => bad_in(a),
-        TypedNode::Loop(invariants, b) => earlier(bad_among(invariants), bad_in(b)),
-        TypedNode::LoopUntilBreak(invariants, b) => earlier(bad_among(invariants), bad_in(b)),
-        TypedNode::Break => None,
-        TypedNode::Continue => None,
+        TypedNode::Panic(_) => Ok(None),
+        TypedNode::Return(a) => bad_in(alloc, a),
+        TypedNode::Loop(invariants, b) => Ok(earlier(bad_among(invariants), bad_in(alloc, b)?)),
+        TypedNode::LoopUntilBreak(invariants, b) => {
+            Ok(earlier(bad_among(invariants), bad_in(alloc, b)?))
+        }
+        TypedNode::Break => Ok(None),
+        TypedNode::Continue => Ok(None),
     }
 }
 
 #[cycle(bad_in)]
 #[tactic(auto, using(crate::proofs::TypedParts::typed_parts))]
-fn bad_in_exprs(es: &[TypedExpr]) -> Option<SourceError>
-    ensures { result ≡ bad_in_exprs (exprs_of es.now) }
+fn bad_in_exprs(alloc: Global, es: &[TypedExpr]) -> Result<Option<SourceError>, NoMemory>
+    ensures { IfOk result (λ r. r ≡ bad_in_exprs (exprs_of es.now)) }
 {
     for i in 0..es.len() {
-        let bad = bad_in(&es[i]);
+        let bad = bad_in(alloc, &es[i])?;
         if bad.is_some() {
-            return bad;
+            return Ok(bad);
         }
     }
-    None
+    Ok(None)
 }
 
 #[cycle(bad_in)]
 #[tactic(auto, using(crate::proofs::TypedParts::typed_parts))]
-fn bad_in_stmts(stmts: &[TypedStmt]) -> Option<SourceError>
-    ensures { result ≡ bad_in_stmts (stmts_of stmts.now done) }
+fn bad_in_stmts(alloc: Global, stmts: &[TypedStmt]) -> Result<Option<SourceError>, NoMemory>
+    ensures { IfOk result (λ r. r ≡ bad_in_stmts (stmts_of stmts.now done)) }
 {
     for i in 0..stmts.len() {
-        let bad = bad_in(&stmts[i].value);
+        let bad = bad_in(alloc, &stmts[i].value)?;
         if bad.is_some() {
-            return bad;
+            return Ok(bad);
         }
     }
-    None
+    Ok(None)
 }
 
 #[cycle(bad_in)]
 #[tactic(auto, using(crate::proofs::TypedParts::typed_parts))]
-fn bad_in_arms(arms: &[TypedArm]) -> Option<SourceError>
-    ensures { result ≡ bad_in_arms (arms_of arms.now) }
+fn bad_in_arms(alloc: Global, arms: &[TypedArm]) -> Result<Option<SourceError>, NoMemory>
+    ensures { IfOk result (λ r. r ≡ bad_in_arms (arms_of arms.now)) }
 {
     for i in 0..arms.len() {
-        let bad = bad_in(&arms[i].body);
+        let bad = bad_in(alloc, &arms[i].body)?;
         if bad.is_some() {
-            return bad;
+            return Ok(bad);
         }
     }
-    None
+    Ok(None)
 }
 
 fn bad_clause(clauses: &[TypedClause]) -> Option<SourceError>
@@ -187,24 +231,28 @@ fn bad_clause(clauses: &[TypedClause]) -> Option<SourceError>
     None
 }
 
-fn bad_in_function(function: &TypedFunction) -> Option<SourceError>
-    ensures { result ≡ bad_in_function function.now }
+fn bad_in_function(alloc: Global, function: &TypedFunction) -> Result<Option<SourceError>, NoMemory>
+    ensures { IfOk result (λ r. r ≡ bad_in_function function.now) }
 {
-    earlier(
-        bad_clause(function.clauses.as_slice()),
-        bad_in(&function.body),
-    )
+    let bad = bad_clause(function.clauses.as_slice());
+    if bad.is_some() {
+        return Ok(bad);
+    }
+    bad_in(alloc, &function.body)
 }
 
 /// The first refusal of a clause, an invariant or a match, in source order.
-pub(crate) fn first_bad(functions: &[TypedFunction]) -> Option<SourceError>
-    ensures { result ≡ first_bad functions.now }
+pub(crate) fn first_bad(
+    alloc: Global,
+    functions: &[TypedFunction],
+) -> Result<Option<SourceError>, NoMemory>
+    ensures { IfOk result (λ r. r ≡ first_bad functions.now) }
 {
     for function in functions {
-        let bad = bad_in_function(function);
+        let bad = bad_in_function(alloc, function)?;
         if bad.is_some() {
-            return bad;
+            return Ok(bad);
         }
     }
-    None
+    Ok(None)
 }

@@ -5,21 +5,11 @@ ghost use Rattle.type_check.specs.TypedExprView.{arms_of, exprs_of, stmts_of, ty
 ghost use Rattle.type_check.specs.Unrun.{are_scalar, earlier, first_unrun, is_scalar, own_place, runs, unrun_among, unrun_function, unrun_in, unrun_in_arms, unrun_in_statements};
 
 use crate::program::{TypedFunction, TypedProgram};
+use crate::scalars::is_scalar;
 use crate::typed::{TypedArm, TypedExpr, TypedNode, TypedStmt};
 use crate::typing::ty_of;
-use logic_term::{Ty, TyNode};
+use logic_term::Ty;
 use text_core::Span;
-
-#[tactic(auto, using(crate::proofs::UnrunParts::empty_parts))]
-fn is_scalar(ty: &Ty) -> bool
-    ensures { result ≡ is_scalar ty.now }
-{
-    match &ty.node {
-        TyNode::Int(_) | TyNode::Bool => true,
-        TyNode::Tuple(parts) => parts.is_empty(),
-        _ => false,
-    }
-}
 
 fn are_scalar(types: &[Ty]) -> bool
     ensures { result ≡ are_scalar types.now }
@@ -43,7 +33,7 @@ fn runs(e: &TypedExpr) -> bool
     ensures { result ≡ runs e.now }
 {
     match &*e.node {
-        TypedNode::Make(_, _) | TypedNode::Part(_, _) | TypedNode::Match(_, _) => false,
+        TypedNode::Make(_, _) | TypedNode::Part(_, _) => false,
         _ => is_scalar(ty_of(e)),
     }
 }
@@ -181,7 +171,7 @@ fn unrun_function(f: &TypedFunction) -> Option<Span>
 }
 
 /// The first place in the program of what does not run yet, since it is not over integers, truth values and unit alone: of a function that has a
-/// parameter or an answer of another type its name; of an expression that has another type, makes a value of others, takes a part of one or matches one, its own place, behind those of its parts. `None` where the program is plain.
+/// parameter or an answer of another type its name; of an expression that has another type, makes a value of others or takes a part of one, its own place, behind those of its parts. `None` where the program is plain.
 pub fn first_unrun(program: &TypedProgram) -> Option<Span>
     ensures { result ≡ first_unrun program.now }
 {

@@ -1,4 +1,4 @@
-//! `match`, `if let` and `while let`, from the texts of sources. No match is lowered so far, so one that has a type is E20 at its place, where nothing else is refused.
+//! `match`, `if let` and `while let`, from the texts of sources. A match that is not flat is not lowered so far, so one that has a type is E20 at its place, where nothing else is refused.
 use crate::assigning::{Row, expect};
 use std::test::Fail;
 use text_core::Code;
@@ -6,12 +6,9 @@ use text_core::Code;
 const TYPED: [Row; 9] = [
     (
         b"fn f(b: bool) -> i32 { match b { true => 1, false => 2 } }",
-        Some((Code::E20, 23, 56)),
+        None,
     ),
-    (
-        b"fn f(n: u8) -> u8 { match n { 0 => 1, m => m } }",
-        Some((Code::E20, 20, 46)),
-    ),
+    (b"fn f(n: u8) -> u8 { match n { 0 => 1, m => m } }", None),
     (
         b"enum E { A(i32), B } fn f(e: E) -> i32 { match e { E::A(x) => x, E::B => 0 } }",
         Some((Code::E20, 41, 76)),
@@ -28,17 +25,14 @@ const TYPED: [Row; 9] = [
         b"fn f(t: (i32, bool)) -> i32 { match t { (x, true) => x, (_, false) => 0 } }",
         Some((Code::E20, 30, 73)),
     ),
-    (
-        b"fn f() -> i32 { match 1 { 1 => 2, _ => 3 } }",
-        Some((Code::E20, 16, 42)),
-    ),
+    (b"fn f() -> i32 { match 1 { 1 => 2, _ => 3 } }", None),
     (
         b"fn f(n: u8) -> u8 { match n { mut m => { m = 1; m } } }",
-        Some((Code::E20, 20, 53)),
+        None,
     ),
     (
         b"fn f(b: bool) { loop { match b { true => break, false => {} } } }",
-        Some((Code::E20, 23, 61)),
+        None,
     ),
 ];
 
@@ -51,23 +45,23 @@ fn arms_have_types(rt: HostRuntime) {
 const GIVEN: [Row; 12] = [
     (
         b"fn f(b: bool) -> u8 { let x = match b { true => 1u8, false => 2 }; x }",
-        Some((Code::E20, 30, 65)),
+        None,
     ),
     (
         b"fn f(b: bool) -> u8 { let x = match b { true => return 1, false => 2u8 }; x }",
-        Some((Code::E20, 30, 72)),
+        None,
     ),
     (
         b"fn f(n: u8) -> u8 { let x = match n { 0 => panic!(), 1 => 2u8, 3 => return 4, _ => 5 }; x }",
-        Some((Code::E20, 28, 86)),
+        None,
     ),
     (
         b"fn f(b: bool) -> u8 { match b { true => return 1, false => return 2 } }",
-        Some((Code::E20, 22, 69)),
+        None,
     ),
     (
         b"fn f(b: bool) -> u8 { let x: bool = match b { true => panic!(), false => panic!() }; 1 }",
-        Some((Code::E20, 36, 83)),
+        None,
     ),
     (
         b"fn f(o: Option<u8>) -> u8 { let y = if let Some(x) = o { x } else { 0 }; y }",
@@ -239,4 +233,76 @@ const REFUSED: [Row; 10] = [
 #[test]
 fn patterns_are_refused_in_their_order(rt: HostRuntime) {
     expect(&rt, rt.alloc(), &REFUSED);
+}
+
+const COVERED: [Row; 12] = [
+    (
+        b"fn f(b: bool) -> i32 { match b { true => 1 } }",
+        Some((Code::E11, 23, 44)),
+    ),
+    (
+        b"fn f(n: u8) -> u8 { match n { 0 => 1, 255 => 2 } }",
+        Some((Code::E11, 20, 48)),
+    ),
+    (
+        b"fn f(b: bool) -> u8 { match b { true => 1, true => 2, false => 3, _ => 4 } }",
+        None,
+    ),
+    (
+        b"fn f(n: i64) -> i64 { match n { 3i64 => 1, m => m, 5 => 2 } }",
+        None,
+    ),
+    (b"fn f(x: ()) -> u8 { match x { y => 1 } }", None),
+    (
+        b"fn f(b: bool) -> u8 { if let true = b { 1 } else { 2 } }",
+        None,
+    ),
+    (b"fn f(n: u8) { while let 0 = n {} }", None),
+    (
+        b"fn f(b: bool) -> u8 { match match b { false => true } { true => 1 } }",
+        Some((Code::E11, 28, 53)),
+    ),
+    (
+        b"fn f(b: bool) -> u8 { match b { true => match b { true => 1 } } }",
+        Some((Code::E11, 40, 61)),
+    ),
+    (
+        b"fn f(t: (u8, u8), b: bool) { match t { x => {} } match b { true => {} } }",
+        Some((Code::E20, 29, 48)),
+    ),
+    (
+        b"fn f(b: bool) { match b { true => {} } } fn g(t: (u8, u8)) { match t { x => {} } }",
+        Some((Code::E11, 16, 38)),
+    ),
+    (
+        b"fn f(b: bool) { match b { false => {} } } fn g() -> u8 { true }",
+        Some((Code::E07, 57, 61)),
+    ),
+];
+
+/// A flat match is E11 at its place where its patterns do not cover the type, behind its parts, and behind all that has no type.
+#[test]
+fn flat_patterns_cover_their_type(rt: HostRuntime) {
+    expect(&rt, rt.alloc(), &COVERED);
+}
+
+const NOT_FLAT: [Row; 3] = [
+    (
+        b"fn f(x: ()) { match x { () => {} } }",
+        Some((Code::E20, 14, 34)),
+    ),
+    (
+        b"fn f(t: (u8, bool)) { match t { _ => {} } }",
+        Some((Code::E20, 22, 41)),
+    ),
+    (
+        b"struct P { x: i32 } fn f(p: P) { match p { P { x } => { x; } } }",
+        Some((Code::E20, 33, 62)),
+    ),
+];
+
+/// A match at a tuple or a struct, or by a pattern of parts, is E20 also where it covers its type.
+#[test]
+fn other_matches_are_not_built(rt: HostRuntime) {
+    expect(&rt, rt.alloc(), &NOT_FLAT);
 }

@@ -33,7 +33,7 @@ fn is_right(alloc: Global, row: &Row) -> bool {
     }
 }
 
-const FIRST_UNRUN: [Row; 18] = [
+const FIRST_UNRUN: [Row; 22] = [
     (b"fn f() {}", None),
     (b"fn f(x: i32) -> bool { let y = x + 1; y < 2 }", None),
     (b"struct P { x: i32 } fn f() -> i32 { 1 }", None),
@@ -75,6 +75,22 @@ const FIRST_UNRUN: [Row; 18] = [
     (
         b"fn f(x: u8) -> u16 { x as u16 + (1u8, 2).0 as u16 }",
         Some((32, 40)),
+    ),
+    (
+        b"fn f(b: bool) -> u8 { match b { true => 1, false => 2 } }",
+        None,
+    ),
+    (
+        b"fn f(n: u8) -> u8 { if let 3 = n { n } else { (4, n).1 } }",
+        Some((46, 52)),
+    ),
+    (
+        b"fn f() -> u8 { match (1u8, true).1 { true => 1, _ => 2 } }",
+        Some((21, 32)),
+    ),
+    (
+        b"fn f(b: bool) { let t = match b { _ => (1u8, 2u8) }; }",
+        Some((39, 49)),
     ),
 ];
 
