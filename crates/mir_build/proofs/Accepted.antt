@@ -1,6 +1,12 @@
 -- Formulas that are not refused.
-use Rattle.std.proofs.Common.{◌≡◌, refl, ap, sym, ◌∙◌, List, [], ◌∷◌, map, Option, Some, None}
+use Rattle.std.proofs.Common.{◌≡◌, refl, ap, sym, ◌∙◌, ◌&&◌, Bool, true, false, List, [], ◌∷◌, map, Option, Some, None}
+use Rattle.std.specs.Prelude.{if◌then◌else◌}
 use Rattle.text_core.specs.declared.refusal.SourceError.{SourceError}
+use Rattle.text_core.specs.declared.span.Span.{Span}
+use Rattle.logic_term.specs.Pattern.{Pat}
+use Rattle.logic_term.specs.Ty.{Ty}
+use Rattle.pat_check.specs.Decision.{Decision}
+use Rattle.pat_check.specs.Flat.{all_flat, flat_tree}
 use Rattle.logic_term.specs.declared.obligation.Contract.{Contract}
 use Rattle.type_check.specs.declared.assertion.Assertion.{Assertion}
 use Rattle.type_check.specs.declared.assertion.Assertion.TheVariants.{Good, Bad}
@@ -8,8 +14,9 @@ use Rattle.type_check.specs.declared.program.ClauseKind.{ClauseKind}
 use Rattle.type_check.specs.declared.program.ClauseKind.TheVariants.{Requires, Ensures}
 use Rattle.type_check.specs.declared.program.TypedClause.{TypedClause}
 use Rattle.type_check.specs.declared.program.TypedFunction.{TypedFunction}
-use Rattle.type_check.specs.Answers.{or_else}
-use Rattle.type_check.specs.FirstBad.{bad_of, bad_among, bad_clause}
+use Rattle.type_check.specs.Answers.{or_else, unbuilt}
+use Rattle.type_check.specs.Scalars.{is_scalar}
+use Rattle.type_check.specs.FirstBad.{bad_of, bad_among, bad_clause, uncovered, match_refusal}
 use Rattle.mir_build.specs.Lowering.{Formula, accepted, formulas_of, picked, contract_over, HasContract}
 use Rattle.mir_build.specs.Numbered.{formula_of}
 use Rattle.mir_build.specs.Whole.{contract_of}
@@ -28,9 +35,30 @@ pub both_none : (a b : Option SourceError) → a ≡ None → b ≡ None → or_
 both_none None b e g = g
 both_none (Some x) b e g = absurd (cc)
 
--- a match is refused
-pub no_match : (a b : Option SourceError) (x : SourceError) → or_else a (or_else b (Some x)) ≡ None → ⊥
-no_match a b x e = let f : Some x ≡ None = second_none b (Some x) (second_none a (or_else b (Some x)) e) in cc
+-- a match that is not refused is flat, and its patterns have a tree
+pub record FlatMatch (t : Ty) (ps : List Pat) : Type 0 where
+  pub scalar : is_scalar t ≡ true
+  pub flat : all_flat t ps ≡ true
+  pub tree : Decision
+  pub is_tree : flat_tree t ps ≡ Some tree
+
+has_tree : (s : Span) (o : Option Decision) → uncovered s o ≡ None → (D : Decision) × (o ≡ Some D)
+has_tree s None e = absurd (cc)
+has_tree s (Some D) e = (D, refl)
+
+both_hold : (a b : Bool) → a && b ≡ true → (a ≡ true) × (b ≡ true)
+both_hold true b e = (refl, e)
+both_hold false b e = absurd (cc)
+
+pub flat_match : (s : Span) (t : Ty) (ps : List Pat) → match_refusal s t ps ≡ None → FlatMatch t ps
+flat_match s t ps e = by (is_scalar t && all_flat t ps) refl e
+  where
+    by : (b : Bool) → (is_scalar t && all_flat t ps) ≡ b → (if b then uncovered s (flat_tree t ps) else Some (unbuilt s)) ≡ None → FlatMatch t ps
+    by true h g =
+        let k = both_hold (is_scalar t) (all_flat t ps) h in
+        let D = has_tree s (flat_tree t ps) g in
+        record { scalar = k.0; flat = k.1; tree = D.0; is_tree = D.1 }
+    by false h g = absurd (cc)
 
 pub ruleset refusals = (first_none, second_none, both_none)
 

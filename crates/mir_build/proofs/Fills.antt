@@ -1,21 +1,24 @@
 -- The numbered text of an expression fills a range of labels, each of which begins one block, and a range of locals, which it makes in order.
-use Rattle.std.proofs.Common.{◌≡◌, refl, ap, sym, ◌∙◌, subst, ℕ, ◌+◌, ◌&&◌, Bool, true, false, List, [], ◌∷◌, ◌++◌, drop, arith, true≢false}
+use Rattle.std.proofs.Common.{◌≡◌, refl, ap, sym, ◌∙◌, subst, ℕ, ◌+◌, ◌&&◌, Bool, true, false, zero, suc, List, [], ◌∷◌, ◌++◌, drop, Option, Some, None, arith, true≢false}
 use Rattle.std.specs.List.{range_with_len}
 use Rattle.text_core.specs.declared.span.Span.{Span}
 use Rattle.logic_term.specs.declared.kinds.Label.{Label}
-use Rattle.logic_term.specs.Ty.{Ty}
+use Rattle.logic_term.specs.Ty.{Ty, bool}
 use Rattle.mir_ir.specs.declared.body.Head.{Head}
 use Rattle.mir_ir.specs.declared.place.Place.{Place}
+use Rattle.mir_ir.specs.declared.statement.Rvalue.{Rvalue}
 use Rattle.mir_ir.specs.declared.statement.Statement.{Statement}
 use Rattle.mir_ir.specs.declared.terminator.Terminator.{Terminator}
 use Rattle.source_kinds.specs.declared.kinds.LazyOp.{LazyOp}
 use Rattle.source_kinds.specs.declared.kinds.LazyOp.TheVariants.{And, Or}
-use Rattle.type_check.specs.TypedExpr.{TypedExpr, TypedStmts, TypedExprs, integer, truth, variable, negative, denied, cast, binary, lazy, assign, update, call, make, part, block, branch, choice, matched, repeat, panics, returned, endless, until_break, break_off, go_on, done, last, leaving, bind, run, none, more}
-use Rattle.type_check.specs.Leaves.{leaves}
-use Rattle.type_check.specs.TypedExprView.{ty_of}
+use Rattle.pat_check.specs.Decision.{Decision, leaf, switch, if_truth, if_literal}
+use Rattle.pat_check.specs.Flat.{flat_tree}
+use Rattle.type_check.specs.TypedExpr.{TypedExpr, TypedStmts, TypedExprs, integer, truth, variable, negative, denied, cast, binary, lazy, assign, update, call, make, part, block, branch, choice, matched, repeat, panics, returned, endless, until_break, break_off, go_on, done, last, leaving, bind, run, none, more, TypedArms, no_arms, with_arm}
+use Rattle.type_check.specs.Leaves.{leaves, all_arms_leave}
+use Rattle.type_check.specs.TypedExprView.{ty_of, patterns_of}
 use Rattle.mir_build.specs.Text.{Line, Puts, Makes, Turns, Leaves, Owns, made}
-use Rattle.mir_build.specs.Lowering.{Around, binds, looping, at, at_head, dies, dies_in, lazily, numbers, is_place}
-use Rattle.mir_build.specs.Numbered.{temporary_count, text_before, place_before, choice_labels, choice_text, loop_at, jump, into, rest, args, body_text, labels, labels_of, labels_in, locals, locals_of, locals_in, label}
+use Rattle.mir_build.specs.Lowering.{Around, binds, looping, at, at_head, dies, dies_in, lazily, met, numbers, is_place}
+use Rattle.mir_build.specs.Numbered.{place_of, behind_label, behind_labels, tests_take, match_takes, tested_by, tests_text, tests_of, arm_labels, arm_locals, arm_into, temporary_count, text_before, place_before, choice_labels, choice_text, loop_at, jump, into, rest, args, body_text, labels, labels_of, labels_in, locals, locals_of, locals_in, label}
 use Rattle.mir_build.proofs.Jumps.{deaths, first_dies_last}
 use Rattle.mir_build.proofs.Numbers.{within, within_zero, within_one, within_two, within_three, within_split, begins, begins-append, turns, turns-append, makings, makings-append}
 use Rattle.mir_build.proofs.Order.{InOrder, then_in_order, numbers_in_order}
@@ -165,6 +168,39 @@ target_filled (variable ty s v) c l t p q = as_counts _ refl (omega arith) (q re
 target_filled (part ty s e n) c l t p q = as_counts _ refl (omega arith) (q refl)
 target_filled e c l t p q = make_local (ty_of e) _ p
 
+-- ---- tests
+
+abbrev ArmsFilled : (ℕ → ℕ) → (ℕ → ℕ) → (ℕ → ℕ → ℕ → List Line) → Type 0
+ArmsFilled ls ts arm = (n l t : ℕ) → Fills l (ls n) t (ts n) (arm n l t)
+
+told : {l n t m n' m' : ℕ} (k u : ℕ) (c : Around) (s : Span) (r : Rvalue) (to : Option Label) (xs ys : List Line) → k ≡ l + 2 + n → u ≡ t + 1 + m → Fills (l + 2) n (t + 1) m xs → Fills k n' u m' ys
+    → Fills l (2 + (n + n')) t (1 + (m + m')) (tested_by c s t r l to xs ys)
+told k u c s r to xs ys q e p p' = make_local bool _ (put _ _ (parted k u c _ _ xs ys q e p p'))
+
+pub tests_filled : (c : Around) (s : Span) (T : Ty) (p : Place) (to : Option Label) (ls ts : ℕ → ℕ) (arm : ℕ → ℕ → ℕ → List Line) → ArmsFilled ls ts arm → (D : Decision) (l t : ℕ)
+    → Fills l (tests_take 2 ls D) t (tests_take 1 ts D) (tests_text c s T p to ls ts arm D l t)
+tests_filled c s T p to ls ts arm h (leaf n bs) l t = h n l t
+tests_filled c s T p to ls ts arm h (switch q Ds) l t = nothing l t
+tests_filled c s T p to ls ts arm h (if_truth q D E) l t = as_counts _ (omega arith) (omega arith) (told _ _ c s _ to _ _ refl refl (tests_filled c s T p to ls ts arm h D (l + 2) (t + 1)) (tests_filled c s T p to ls ts arm h E _ _))
+tests_filled c s T p to ls ts arm h (if_literal q z D E) l t = as_counts _ (omega arith) (omega arith) (told _ _ c s _ to _ _ refl refl (tests_filled c s T p to ls ts arm h D (l + 2) (t + 1)) (tests_filled c s T p to ls ts arm h E _ _))
+
+match_filled : (c : Around) (s : Span) (T : Ty) (p : Place) (to : Option Label) (ls ts : ℕ → ℕ) (arm : ℕ → ℕ → ℕ → List Line) → ArmsFilled ls ts arm → (o : Option Decision) (l t : ℕ)
+    → Fills l (match_takes 2 ls o) t (match_takes 1 ts o) (tests_of c s T p to ls ts arm o l t)
+match_filled c s T p to ls ts arm h None l t = nothing l t
+match_filled c s T p to ls ts arm h (Some D) l t = tests_filled c s T p to ls ts arm h D l t
+
+-- the block behind takes its label before them
+met_filled : {n t m : ℕ} (all : Bool) (c : Around) (s : Span) (l : ℕ) (xs : List Line) → Fills (l + behind_labels all) n t m xs → Fills l (behind_labels all + n) t m (xs ++ met c s (behind_label all l))
+met_filled {n} {t} {m} true c s l xs p = as_counts _ (omega arith) (omega arith) (join _ _ xs [] refl refl (subst (λ k. Fills k n t m xs) (omega arith) p) (nothing _ _))
+met_filled {n} {t} {m} false c s l xs p =
+    let end = met c s (Some (label l)) in
+    record {
+      once = λ x. omega (arith, begins-append x xs end, within_one l x, within_split l 1 n (l + 1) x refl, p.once x);
+      turned = omega (arith, turns-append xs end, p.turned);
+      making = omega (arith, makings-append xs end, p.making);
+      order = then_in_order t (t + makings xs) xs end refl p.order tt;
+    }
+
 -- ---- the numbered text
 
 mutual
@@ -188,7 +224,12 @@ mutual
   fills (block ty s ss) c l t d = rest_filled ss false s c l t d
   fills (branch ty s e a) c l t d = as_counts _ (omega arith) (omega arith) (made_then _ _ _ _ _ refl refl (fills e c l (t + 1) t) (forked _ _ c _ _ _ _ _ refl refl (fills a c _ _ d) (one _ _ _)))
   fills (choice ty s e a b) c l t d = as_counts _ (omega arith) (omega arith) (made_then _ _ _ _ _ refl refl (fills e c l (t + 1) t) (sides_filled (leaves a && leaves b) _ _ c s t _ _ refl refl (fills a c _ _ d) (fills b c _ _ d)))
-  fills (matched ty s e as') c l t d = nothing l t
+  fills (matched ty s e as') c l t d =
+      as_counts _ (omega arith) (omega arith)
+      (join (l + labels e) (t + temporary_count (is_place e) + locals e) _ _ refl (omega arith) (target_filled e c l t (fills e c l (t + 1) t) (before_filled e c l t))
+      (met_filled (all_arms_leave as') c s (l + labels e) _
+      (match_filled c s (ty_of e) (place_of c.scope t e) (behind_label (all_arms_leave as') (l + labels e)) (arm_labels as') (arm_locals as') (arm_into as' c s (ty_of e) (place_of c.scope t e) d) (arms_filled as' c s (ty_of e) (place_of c.scope t e) d)
+      (flat_tree (ty_of e) (patterns_of as')) _ _)))
   fills (repeat ty s is e b) c l t d =
       as_counts _ (omega arith) (omega arith)
       (looped _ _ (looping c (label l) (label (l + 2))) c _ _ _ _ _ _ _ _ _ _ refl refl (fills e (looping c (label l) (label (l + 2))) (l + 3) (t + 1) t) (fills b (looping c (label l) (label (l + 2))) (l + 3 + labels e) (t + 1 + locals e + 1) (t + 1 + locals e)))
@@ -211,6 +252,13 @@ mutual
   rest_filled (bind e ss) outer s c l t d =
       as_counts _ (omega arith) (omega arith) (made_then _ _ _ _ _ refl refl (fills e c l (t + 1) t) (join _ _ _ _ refl refl (rest_filled ss outer s (binds c t) _ _ d) (dying _ _ outer s t)))
   rest_filled (run e ss) outer s c l t d = as_counts _ (omega arith) (omega arith) (made_then _ _ _ _ _ refl refl (fills e c l (t + 1) t) (rest_filled ss outer s c _ _ d))
+
+  pub arms_filled : (as' : TypedArms) (c : Around) (s : Span) (T : Ty) (p : Place) (d : ℕ) → ArmsFilled (arm_labels as') (arm_locals as') (arm_into as' c s T p d)
+  arms_filled no_arms c s T p d n l t = nothing l t
+  arms_filled (with_arm q [] e as') c s T p d zero l t = as_counts _ refl (omega arith) (fills e c l t d)
+  arms_filled (with_arm q (y ∷ ys) e as') c s T p d zero l t =
+      as_counts _ (omega arith) (omega arith) (make_local T _ (put _ _ (join _ _ _ _ refl refl (fills e (binds c t) l (t + 1) d) (dying _ _ false s t))))
+  arms_filled (with_arm q ys e as') c s T p d (suc n) l t = arms_filled as' c s T p d n l t
 
   pub args_filled : (es : TypedExprs) (c : Around) (l t : ℕ) → Fills l (labels_in es) t (locals_in es) (args es c l t)
   args_filled none c l t = nothing l t

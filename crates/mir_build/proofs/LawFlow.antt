@@ -1,5 +1,5 @@
 -- Where the ends of blocks lead: forward in the text, out of loops or into one at its head, or back to the head of a loop around.
-use Rattle.std.proofs.Common.{◌≡◌, refl, ap, sym, ◌∙◌, subst, Bool, true, ◌||◌, ◌==◌, List, [], ◌∷◌, ◌++◌, length, ◌-◌, Some, slice_get, append_assoc, append-nil}
+use Rattle.std.proofs.Common.{◌≡◌, refl, ap, sym, ◌∙◌, subst, Bool, true, ◌||◌, ◌==◌, List, [], ◌∷◌, ◌++◌, length, ◌-◌, Option, Some, None, slice_get, append_assoc, append-nil}
 use Rattle.std.proofs.lemmas.Bool.{eq-eqb}
 use Rattle.logic_term.specs.declared.kinds.Label.{Label}
 use Rattle.mir_ir.specs.declared.body.Head.{Head}
@@ -12,7 +12,7 @@ use Rattle.type_check.specs.TypedExpr.{TypedExpr}
 use Rattle.text_core.specs.declared.span.Span.{Span}
 use Rattle.mir_build.specs.declared.around.Loop.{Loop}
 use Rattle.mir_build.specs.Text.{Title, Line, Puts, Makes, Turns, Leaves, Owns, begun}
-use Rattle.mir_build.specs.Lowering.{Around, Formula, heads, looping, at, at_head, head_of, test, fork, turning, spinning, circling, returning, IntoBody}
+use Rattle.mir_build.specs.Lowering.{Around, Formula, goes, heads, looping, at, at_head, head_of, test, fork, edge_to, split, met, turning, spinning, circling, returning, IntoBody}
 use Rattle.mir_build.proofs.LawLists.{Has, here, there, has_left, has_right, begun-append}
 use Rattle.mir_build.proofs.Jumps.{innermost_last, heads_more}
 use Rattle.mir_build.proofs.Shapes.{Keeps, of_body}
@@ -107,6 +107,40 @@ flows_fork c s t yes' no' xs ys p q whole outs g i =
     (step whole outs c.loops _ xs _ (λ t h. g t (there h)) i (p whole)
     (λ g. turns (same c no' here, tt) (q whole outs (λ t h. g t (there h)) i)))
 
+-- ---- texts that meet
+
+-- the block of the label stands behind
+abbrev Stands : Around → Option Label → List Title → Type 0
+Stands c None outs = Unit {0}
+Stands c (Some l) outs = Has (at c l) outs
+
+abbrev FlowsTo : Around → Option Label → List Line → Type 0
+FlowsTo c to xs = (whole outs : List Title) → In whole xs → Inside whole outs c.loops → Stands c to outs → Flows whole outs (heads c.loops) (heads c.loops) xs
+
+stands_more : (c : Around) (to : Option Label) (bs outs : List Title) → Stands c to outs → Stands c to (bs ++ outs)
+stands_more c None bs outs h = tt
+stands_more c (Some l) bs outs h = has_right bs outs h
+
+inside_more : (whole : List Title) (ls : List Loop) (bs outs : List Title) → Inside whole outs ls → Inside whole (bs ++ outs) ls
+inside_more whole ls bs outs i l e later h = i l e later (λ t has. h t (has_right bs outs has))
+
+-- the edge at the end of the first of two texts
+first_edge : (whole : List Title) (c : Around) (to : Option Label) (no' : Label) (bs outs : List Title) → Stands c to outs → To whole (heads c.loops) (at c no' ∷ (bs ++ outs)) (edge_to to no')
+first_edge whole c None no' bs outs h = same c no' here
+first_edge whole c (Some l) no' bs outs h = same c l (there (has_right bs outs h))
+
+flows_told : (c : Around) (s : Span) (u : ℕ) (U : Ty) (v : Statement) (yes' no' : Label) (to : Option Label) (xs ys : List Line) → FlowsTo c to xs → FlowsTo c to ys → FlowsTo c to (Makes u U ∷ Puts v ∷ split c s u yes' no' to xs ys)
+flows_told c s u U v yes' no' to xs ys p q whole outs g i h =
+    let rest : List Line = goes c s (edge_to to no') no' ∷ ys in
+    makes (puts (turns (same c yes' here, (same c no' (there (behind xs _ outs here)), tt))
+    (step_in whole outs (heads c.loops) _ xs rest (λ t k. g t (there k)) (λ k. p whole (begun rest ++ outs) k (inside_more whole c.loops (begun rest) outs i) (stands_more c to (begun rest) outs h))
+    (λ k. turns (first_edge whole c to no' (begun ys) outs h, tt) (q whole outs (λ t has. k t (there has)) i h)))))
+
+flows_met : (c : Around) (s : Span) (to : Option Label) (xs : List Line) → FlowsTo c to xs → FlowsOn c (xs ++ met c s to)
+flows_met c s None xs p whole outs g i = step_in whole outs (heads c.loops) _ xs [] g (λ k. p whole outs k i tt) (λ k. at_end)
+flows_met c s (Some l) xs p whole outs g i =
+    step_in whole outs (heads c.loops) _ xs (goes c s l l ∷ []) g (λ k. p whole (at c l ∷ outs) k (inside_more whole c.loops (at c l ∷ []) outs i) here) (λ k. turns (same c l here, tt) at_end)
+
 -- ---- loops
 
 module _ (whole : List Title) (c : Around) (head after : Label) where
@@ -164,7 +198,7 @@ flows_circling c s head fs u U ys p whole outs g i =
     turns (enters whole c head head fs, tt)
     (makes (step_in whole outs (heads (looping c head head).loops) (heads c.loops) ys _ (λ t h. g t (there h)) (λ g. p whole _ g (in_this whole c head head _ (λ later h. back later) back)) (λ g. leaves (back _, tt) (owns at_end))))
 
-flow_keeps : Keeps FlowsOn
+flow_keeps : Keeps FlowsOn FlowsTo
 flow_keeps = record {
   nothing = λ c whole outs g i. at_end;
   put = λ c st xs p whole outs g i. puts (p whole outs g i);
@@ -180,8 +214,11 @@ flow_keeps = record {
   spun = flows_spinning;
   broken = λ c s l q whole outs g i. leaves ((i l q outs (λ t h. h)).0, tt) at_end;
   gone_on = λ c s l q whole outs g i. leaves ((i l q outs (λ t h. h)).1, tt) at_end;
+  ended = λ c to xs p whole outs g i h. p whole outs g i;
+  told = flows_told;
+  meeting = flows_met;
   bound = λ c t xs p. p;
 }
 
 pub flows : (c : Around) (e : TypedExpr) (xs : List Line) → IntoBody c e xs → (whole outs : List Title) → In whole xs → Inside whole outs c.loops → Flows whole outs (heads c.loops) (heads c.loops) xs
-flows c e xs p = of_body FlowsOn flow_keeps c e xs p
+flows c e xs p = of_body FlowsOn FlowsTo flow_keeps c e xs p

@@ -1,5 +1,5 @@
 -- Along each lowered text the locals in scope are initialised, and where it ends its own local is too.
-use Rattle.std.proofs.Common.{◌≡◌, refl, ap, sym, ◌∙◌, subst, ℕ, ◌+◌, ◌≤◌, ◌==◌, Bool, true, false, cond, List, [], ◌∷◌, ◌++◌, map, Some, arith, true≢false}
+use Rattle.std.proofs.Common.{◌≡◌, refl, ap, sym, ◌∙◌, subst, ℕ, ◌+◌, ◌≤◌, ◌==◌, Bool, true, false, cond, List, [], ◌∷◌, ◌++◌, map, Option, Some, None, arith, true≢false, append-nil}
 use Rattle.std.proofs.lemmas.Bool.{eqb-true, eq-eqb}
 use Rattle.logic_term.specs.declared.kinds.Label.{Label}
 use Rattle.logic_term.specs.Ty.{Ty}
@@ -11,7 +11,7 @@ use Rattle.mir_ir.specs.declared.terminator.TerminatorKind.TheVariants.{Goto, If
 use Rattle.mir_ir.specs.WellFormed.{Locals, with, without, Within}
 use Rattle.mir_ir.proofs.Taking.{CanTakeAll, all_taken}
 use Rattle.mir_build.specs.Text.{Line, Makes, Turns, Leaves, Owns, made}
-use Rattle.mir_build.specs.Lowering.{numbers, Around, at, at_head, ends, moved, whole, put_unit, fork}
+use Rattle.mir_build.specs.Lowering.{numbers, Around, at, at_head, ends, moved, whole, put_unit, fork, edge_to, split, met}
 use Rattle.mir_build.proofs.Numbers.{count, labels_begun}
 use Rattle.mir_build.proofs.LawLists.{Has, here, there, makings-append, count_self, has_count, differs, fewer}
 use Rattle.mir_build.proofs.LawNames.{HoldsAll, HeadFits}
@@ -105,16 +105,45 @@ forked c s t yes' no' after set now to ys zs h w p q = record {
       set ys (p.runs at' (agree_left at' p.starts _ g.1) b)));
 }
 
--- two branches that leave: no run comes to the edge between them
-pub parted : {B : (Label → Locals) → Type 0} (c : Around) (s : Span) (t : ℕ) (yes' no' : Label) (set now to : Locals) (ys zs : List Line) → now t ≡ true → Within set (without t now) → Within set to → Laid B set ys to → Laid B set zs to
-    → Laid B now (fork c s t yes' no' ys zs) to
-parted c s t yes' no' set now to ys zs h w v p q = record {
+-- two texts of which the edge of the first leads where `to` is initialised, and that of the second is still to come
+pub divided : {B : (Label → Locals) → Type 0} (c : Around) (s : Span) (t : ℕ) (yes' no' : Label) (next : Option Label) (set now to : Locals) (ys zs : List Line) → now t ≡ true → Within set (without t now)
+    → ((at' : Label → Locals) → at' no' ≡ set → B at' → Within (at' (edge_to next no')) to) → Laid B set ys to → Laid B set zs to → Laid B now (split c s t yes' no' next ys zs) to
+divided c s t yes' no' next set now to ys zs h w v p q = record {
   starts = (yes', set) ∷ (p.starts ++ (no', set) ∷ q.starts);
   are = ap (λ ls. yes'.0 ∷ ls) (joined p.starts ((no', set) ∷ q.starts) ys _ p.are (ap (λ ls. no'.0 ∷ ls) q.are));
   runs = λ at' g b.
       let r = agree_right at' p.starts _ g.1 in
       turns h (at_most yes' at' set (without t now) g.0 w, at_most no' at' set (without t now) r.0 w) tt
-      (from_start yes' at' set to _ g.0 (runs-append at' to to _ (turns tt (at_most no' at' set to r.0 v) tt (from_start no' at' set to _ r.0 (q.runs at' r.1 b))) set ys (p.runs at' (agree_left at' p.starts _ g.1) b)));
+      (from_start yes' at' set to _ g.0 (runs-append at' to to _ (turns tt (v at' r.0 b) tt (from_start no' at' set to _ r.0 (q.runs at' r.1 b))) set ys (p.runs at' (agree_left at' p.starts _ g.1) b)));
+}
+
+-- two branches that leave: no run comes to the edge between them
+pub parted : {B : (Label → Locals) → Type 0} (c : Around) (s : Span) (t : ℕ) (yes' no' : Label) (set now to : Locals) (ys zs : List Line) → now t ≡ true → Within set (without t now) → Within set to → Laid B set ys to → Laid B set zs to
+    → Laid B now (fork c s t yes' no' ys zs) to
+parted c s t yes' no' set now to ys zs h w v p q = divided c s t yes' no' None set now to ys zs h w (λ at' e b. at_most no' at' set to e v) p q
+
+-- at the label no more is asked to be initialised
+abbrev pub Awaits : Option Label → Locals → (Label → Locals) → Type 0
+Awaits None to at' = Unit {0}
+Awaits (Some l) to at' = Within (at' l) to
+
+abbrev pub Meeting : ((Label → Locals) → Type 0) → Option Label → Locals → (Label → Locals) → Type 0
+Meeting B next to at' = B at' × Awaits next to at'
+
+-- the edge of the first of two texts that meet at the label
+pub edge_awaits : (next : Option Label) (no' : Label) (set to : Locals) → Within set to → (at' : Label → Locals) → at' no' ≡ set → Awaits next to at' → Within (at' (edge_to next no')) to
+edge_awaits None no' set to v at' e b = at_most no' at' set to e v
+edge_awaits (Some l) no' set to v at' e b = b
+
+pub met_together : {B : (Label → Locals) → Type 0} (c : Around) (s : Span) (next : Option Label) (set to : Locals) (xs : List Line) → Laid (Meeting B next to) set xs to → Laid B set (xs ++ met c s next) to
+met_together {B} c s None set to xs p = subst (λ ys. Laid B set ys to) (sym (append-nil xs)) (record { starts = p.starts; are = p.are; runs = λ at' g b. p.runs at' g (b, tt) })
+met_together {B} c s (Some l) set to xs p = record {
+  starts = p.starts ++ (l, to) ∷ [];
+  are = joined p.starts ((l, to) ∷ []) xs _ p.are refl;
+  runs = λ at' g b.
+      let a = agree_right at' p.starts _ g in
+      let v = at_most l at' to to a.0 (same_set to) in
+      runs-append at' to to _ (turns tt v tt (from_start l at' to to [] a.0 (stops (same_set to)))) set xs (p.runs at' (agree_left at' p.starts _ g) (b, v));
 }
 
 -- a loop

@@ -1,9 +1,9 @@
 -- Along each lowered text the locals in scope are initialised, and where it ends its own local is too.
-use Rattle.std.proofs.Common.{◌≡◌, ◌⊎◌, inl, inr, refl, ap, sym, ◌∙◌, subst, ℕ, ◌+◌, ◌≤◌, ◌==◌, Bool, true, false, List, [], ◌∷◌, ◌++◌, map, drop, length, ◌-◌, Some, slice_get, arith, length-append, append-nil, true≢false}
+use Rattle.std.proofs.Common.{◌≡◌, ◌⊎◌, inl, inr, refl, ap, sym, ◌∙◌, subst, ℕ, ◌+◌, ◌≤◌, ◌==◌, Bool, true, false, List, [], ◌∷◌, ◌++◌, map, drop, length, ◌-◌, Option, Some, None, slice_get, arith, length-append, append-nil, true≢false}
 use Rattle.std.proofs.lemmas.Bool.{eqb-true}
 use Rattle.std.proofs.lemmas.List.{drop_all}
 use Rattle.logic_term.specs.declared.kinds.Label.{Label}
-use Rattle.logic_term.specs.Ty.{Ty}
+use Rattle.logic_term.specs.Ty.{Ty, bool}
 use Rattle.text_core.specs.declared.span.Span.{Span}
 use Rattle.mir_ir.specs.declared.place.Operand.TheVariants.{Copy}
 use Rattle.mir_ir.specs.declared.place.Place.{Place}
@@ -17,14 +17,14 @@ use Rattle.type_check.specs.WellTyped.{Surroundings, within_loop, EachSpeaks}
 use Rattle.mir_ir.specs.declared.terminator.TerminatorKind.TheVariants.{Goto}
 use Rattle.mir_build.specs.declared.around.Loop.{Loop}
 use Rattle.mir_build.specs.Text.{Title, Line, Makes, Turns, Leaves, made}
-use Rattle.mir_build.specs.Lowering.{numbers, Around, Formula, accepted, whole, looping, innermost, binds, moved, ends, head_of, dies, dies_in, puts, puts_at, put_unit, made_by, calls, turning, spinning, circling, IntoBody}
+use Rattle.mir_build.specs.Lowering.{numbers, Around, Formula, accepted, whole, looping, innermost, binds, moved, ends, head_of, dies, dies_in, puts, puts_at, put_unit, made_by, split, met, calls, turning, spinning, circling, IntoBody}
 use Rattle.mir_build.proofs.Numbers.{count}
 use Rattle.mir_build.proofs.LawLists.{Has, here, there, has_get, makings-append, count-append, count_self}
 use Rattle.mir_build.proofs.LawNames.{HoldsPlaces, head_fits}
 use Rattle.mir_build.proofs.LawRuns.{with_self, with_more, with_within, kept, Runs, stops, runs-append, Laid, laid_stops, laid_puts, laid_makes, laid_panics, laid_returns, laid_goes, laid-append}
-use Rattle.mir_build.proofs.LawLaid.{weight, Apart, none, before, first, second, left, right, fresh_second, given_up, still, at_most, same_set, forked, parted, looped, circled, spun, with_all, with_all_more, with_all_has, called, weight_with}
+use Rattle.mir_build.proofs.LawLaid.{weight, Apart, none, before, first, second, left, right, fresh_second, given_up, still, at_most, same_set, forked, divided, parted, Meeting, edge_awaits, met_together, looped, circled, spun, with_all, with_all_more, with_all_has, called, weight_with}
 use Rattle.mir_build.proofs.Jumps.{innermost_last, deaths, first_dies_last, has_last, has_drop_last}
-use Rattle.mir_build.proofs.TypedShapes.{Takes, of_number, of_bool, of_unit, of_copy, of_minus, of_not, of_widening, of_operation, KeepsTyped, of_typed_body}
+use Rattle.mir_build.proofs.TypedShapes.{Takes, of_number, of_bool, of_unit, of_copy, of_minus, of_not, of_widening, of_operation, Asked, truth_asked, number_asked, KeepsTyped, of_typed_body}
 use Rattle.mir_build.proofs.PlainTyping.{IsPlainlyTyped}
 
 -- the set has the locals of the places in scope, one place for each variable, and what is initialised around the innermost loop, of which
@@ -37,6 +37,9 @@ pub record Scoped (c : Around) (Γ : List Ty) (base set : Locals) : Type 0 where
 
 more_scoped : (c : Around) (Γ : List Ty) (base set : Locals) (t : ℕ) → Scoped c Γ base set → Scoped c Γ base (with t set)
 more_scoped c Γ base set t sc = record { count = sc.count; holds = λ p h. with_more t set p.local (sc.holds p h); kept = λ y h. with_more t set y (sc.kept y h); apart = sc.apart }
+
+scoped_within : (c : Around) (Γ : List Ty) (base set now : Locals) → Within set now → Scoped c Γ base set → Scoped c Γ base now
+scoped_within c Γ base set now w sc = record { count = sc.count; holds = λ p h. w p.local (sc.holds p h); kept = λ y h. w y (sc.kept y h); apart = sc.apart }
 
 -- what is not in a set is in none within it
 not_within : (small large : Locals) (x : ℕ) → Within small large → large x ≡ false → small x ≡ false
@@ -210,9 +213,14 @@ only_made set us rest h = record { once = λ x. omega (arith, makings-append x u
 abbrev pub WritesSet : Around → List Ty → List (ℕ × Ty) → ℕ → Ty → List Line → Type 0
 WritesSet c Γ ts d T xs = (base set : Locals) → Scoped c Γ base set → Apart set (0 ∷ (numbers ts ++ numbers (made xs))) → Apart set (d ∷ (numbers ts ++ numbers (made xs))) → Laid (Meets c.loops base) (holding ts set) xs (with d set)
 
+-- where the place is initialised, d is too behind the text, and at the label
+abbrev pub AsksSet : Around → List Ty → Place → Ty → Option Label → ℕ → Ty → List Line → Type 0
+AsksSet c Γ p T to d U xs = (base set : Locals) → Scoped c Γ base set → set p.local ≡ true → Apart set (0 ∷ numbers (made xs)) → Apart set (d ∷ numbers (made xs)) → Laid (Meeting (Meets c.loops base) to (with d set)) set xs (with d set)
+
 -- the place is initialised behind the text
 pub record NamesIn (c : Around) (Γ : List Ty) (p : Place) (T : Ty) (xs : List Line) : Type 0 where
   pub behind : Locals → Locals
+  pub fewest : (set : Locals) (x : ℕ) → weight (behind set x) ≤ weight (set x) + count x (numbers (made xs))
   pub more : (set : Locals) → Within set (behind set)
   pub there : (base set : Locals) → Scoped c Γ base set → behind set p.local ≡ true
   pub laid : (base set : Locals) → Scoped c Γ base set → Apart set (0 ∷ numbers (made xs)) → Laid (Meets c.loops base) set xs (behind set)
@@ -259,6 +267,43 @@ laid_updated c Γ s op t u T p U d V xs q base set sc z a =
     (laid_makes _ _ _ _ _ (laid_puts _ _ _ _ (q.there base (with t set) scoped, more t (with_self t set))
     (laid_puts _ _ _ _ (with_self u now) (laid_puts _ _ _ _ tt (laid_stops _ _ (assigned d p.local u set (with u now) no_u (λ y g. with_more u now y (w y g))))))))
 
+-- ---- tests
+
+-- where more holds of labels
+weaker : {B B' : (Label → Locals) → Type 0} (set to : Locals) (xs : List Line) → ((at : Label → Locals) → B' at → B at) → Laid B set xs to → Laid B' set xs to
+weaker set to xs f p = record { starts = p.starts; are = p.are; runs = λ at g b. p.runs at g (f at b) }
+
+laid_named : (c : Around) (Γ : List Ty) (s : Span) (p : Place) (T : Ty) (to : Option Label) (x d : ℕ) (U : Ty) (xs : List Line) → WritesSet c Γ ((x, T) ∷ []) d U xs → AsksSet c Γ p T to d U (made_by x T (puts s x (Use (Copy p)) ∷ []) ++ xs)
+laid_named c Γ s p T to x d U xs q base set sc h z a = laid_makes _ _ _ _ _ (laid_puts _ _ _ _ h (weaker (with x set) (with d set) xs (λ at b. b.0) (q base set sc z a)))
+
+can_ask : (T : Ty) (p : Place) (r : Rvalue) (set : Locals) → Asked T p r → set p.local ≡ true → (d u : ℕ) (B : (Label → Locals) → Type 0) (s : Span) (to : Locals) (xs : List Line) → Laid B (with u set) xs to → Laid B set (puts s u r ∷ xs) to
+can_ask T p r set (truth_asked e) h d u B s to xs q = laid_puts _ _ _ _ h q
+can_ask T p r set (number_asked k e f) h d u B s to xs q = laid_puts _ _ _ _ (h, tt) q
+
+laid_asked : (c : Around) (Γ : List Ty) (s : Span) (p : Place) (T : Ty) (to : Option Label) (u : ℕ) (r : Rvalue) (yes' no' : Label) (d : ℕ) (U : Ty) (xs ys : List Line) → Asked T p r → AsksSet c Γ p T to d U xs → AsksSet c Γ p T to d U ys
+    → AsksSet c Γ p T to d U (made_by u bool (puts s u r ∷ []) ++ split c s u yes' no' to xs ys)
+laid_asked c Γ s p T to u r yes' no' d U xs ys e q q' base set sc h z a =
+    let b = without_second d u set _ a in
+    let y = without_second 0 u set _ z in
+    let v = with_more d set in
+    laid_makes _ _ _ _ _ (can_ask T p r set e h d u _ s (with d set) _
+    (divided c s u yes' no' to set (with u set) (with d set) xs ys (with_self u set) (given_up u set (fresh_second d u set _ a)) (λ at' f m. edge_awaits to no' set (with d set) v at' f m.1)
+    (q base set sc h (left 0 set xs _ y) (left d set xs _ b)) (q' base set sc h (right 0 set xs _ y) (right d set xs _ b))))
+
+makes_none : (c : Around) (s : Span) (to : Option Label) (x : ℕ) → count x (numbers (made (met c s to))) ≡ 0
+makes_none c s None x = refl
+makes_none c s (Some l) x = refl
+
+laid_matched : (c : Around) (Γ : List Ty) (s : Span) (p : Place) (T : Ty) (to : Option Label) (d : ℕ) (U : Ty) (xs ys : List Line) → NamesIn c Γ p T xs → AsksSet c Γ p T to d U ys → WritesSet c Γ [] d U (xs ++ (ys ++ met c s to))
+laid_matched c Γ s p T to d U xs ys n q base set sc z a =
+    let now = n.behind set in
+    let more : Within set now = n.more set in
+    let tests = met_together c s to now (with d now) ys (q base now (scoped_within c Γ base set now more sc) (n.there base set sc) (apart 0 z) (apart d a)) in
+    laid-append set now (with d set) xs _ (n.laid base set sc (left 0 set xs _ z)) (fewer now (with d now) (with d set) _ tests (with_within d set now more))
+  where
+    apart : (e : ℕ) → Apart set (e ∷ numbers (made (xs ++ (ys ++ met c s to)))) → Apart (n.behind set) (e ∷ numbers (made ys))
+    apart e h = record { once = λ x. omega (arith, n.fewest set x, makings-append x xs (ys ++ met c s to), makings-append x ys (met c s to), makes_none c s to x, h.once x) }
+
 laid_turning : (c : Around) (Γ : List Ty) (s : Span) (head body after : Label) (fs : List Formula) (t : ℕ) (T : Ty) (xs : List Line) (u : ℕ) (U : Ty) (ys : List Line) (d : ℕ) (V : Ty) → EachSpeaks (length Γ) (map accepted fs)
     → WritesSet (looping c head after) Γ [] t T xs → WritesSet (looping c head after) Γ [] u U ys → WritesSet c Γ [] d V (turning c s head body after fs t T xs u U ys (put_unit s d ∷ []))
 laid_turning c Γ s head body after fs t T xs u U ys d V h p q base set sc z a =
@@ -299,7 +344,7 @@ laid_argument c Γ t T U xs ts Ts ys p q = record {
     first_argument : (t : ℕ) (set : Locals) (us vs : List Line) → Apart set (t ∷ numbers (made (us ++ vs))) → Apart set (t ∷ numbers (made us))
     first_argument t set us vs h = record { once = λ x. omega (arith, makings-append x us vs, h.once x) }
 
-keeps_sets : (σ : Surroundings) → KeepsTyped σ WritesSet NamesIn PassesSet
+keeps_sets : (σ : Surroundings) → KeepsTyped σ WritesSet NamesIn PassesSet AsksSet
 keeps_sets σ = record {
   put = laid_put;
   made = λ c Γ ts t T xs d U ys p q base set sc z a.
@@ -325,9 +370,13 @@ keeps_sets σ = record {
       let b = without_second d t set _ a in
       let y = without_second 0 t set _ z in
       parted c s t yes' no' set (with t set) (with d set) xs ys (with_self t set) (given_up t set (fresh_second d t set _ a)) (with_more d set) (p base set sc (left 0 set xs _ y) (left d set xs _ b)) (q base set sc (right 0 set xs _ y) (right d set xs _ b));
+  armed = λ c Γ p T to d U xs q base set sc h z a. weaker set (with d set) xs (λ at b. b.0) (q base set sc z a);
+  named_there = laid_named;
+  asked = laid_asked;
+  matched = λ c Γ s p T to d U xs ys g n q. laid_matched c Γ s p T to d U xs ys n q;
   turned = λ c Γ s head body after fs t T xs u U ys d V e v h p q. laid_turning c Γ s head body after fs t T xs u U ys d V h p q;
-  named = λ c Γ v p T q h. record { behind = λ set. set; more = same_set; there = λ base set sc. sc.holds p (has_get c.scope v p q); laid = λ base set sc a. laid_stops _ _ (same_set set) };
-  temporary = λ c Γ t T xs p. record { behind = with t; more = with_more t; there = λ base set sc. with_self t set; laid = λ base set sc z. laid_makes _ _ _ _ _ (p base set sc (without_second 0 t set _ z) (behind_first 0 set _ z)) };
+  named = λ c Γ v p T q h. record { behind = λ set. set; fewest = λ set x. omega arith; more = same_set; there = λ base set sc. sc.holds p (has_get c.scope v p q); laid = λ base set sc a. laid_stops _ _ (same_set set) };
+  temporary = λ c Γ t T xs p. record { behind = with t; fewest = λ set x. omega (arith, weight_with x t set); more = with_more t; there = λ base set sc. with_self t set; laid = λ base set sc z. laid_makes _ _ _ _ _ (p base set sc (without_second 0 t set _ z) (behind_first 0 set _ z)) };
   assigned = λ c Γ s t T p U d V xs e v q. laid_assigned c Γ s t T p U d V xs q;
   updated = λ c Γ s op t u T p U d V xs h e v q. laid_updated c Γ s op t u T p U d V xs q;
   no_arguments = λ c Γ. record { counts = λ x. omega arith; laid = λ base set sc a. laid_stops _ _ (same_set set) };
@@ -336,4 +385,4 @@ keeps_sets σ = record {
 }
 
 pub text_laid : (σ : Surroundings) (i : Bool) (c : Around) (e : TypedExpr) (xs : List Line) → IntoBody c e xs → (Γ : List Ty) (base set : Locals) → Scoped c Γ base set → IsPlainlyTyped (within_loop i σ) Γ e → Apart set (0 ∷ numbers (made xs)) → Laid (Meets c.loops base) set xs (with 0 set)
-text_laid σ i c e xs p Γ base set sc h a = of_typed_body σ WritesSet NamesIn PassesSet (keeps_sets σ) i c e xs p Γ h base set sc a a
+text_laid σ i c e xs p Γ base set sc h a = of_typed_body σ WritesSet NamesIn PassesSet AsksSet (keeps_sets σ) i c e xs p Γ h base set sc a a

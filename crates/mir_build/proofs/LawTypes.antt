@@ -1,5 +1,5 @@
 -- Each lowered text is typed.
-use Rattle.std.proofs.Common.{◌≡◌, refl, ap, sym, ◌∙◌, subst, ℕ, Bool, true, false, List, [], ◌∷◌, ◌++◌, map, take, drop, length, Some, slice_get}
+use Rattle.std.proofs.Common.{◌≡◌, refl, ap, sym, ◌∙◌, subst, ℕ, Bool, true, false, List, [], ◌∷◌, ◌++◌, map, take, drop, length, Option, Some, None, slice_get}
 use Rattle.logic_term.specs.declared.kinds.Label.{Label}
 use Rattle.logic_term.specs.Ty.{Ty, bool}
 use Rattle.text_core.specs.declared.span.Span.{Span}
@@ -11,6 +11,7 @@ use Rattle.mir_ir.specs.declared.statement.Rvalue.{Rvalue}
 use Rattle.mir_ir.specs.declared.statement.Rvalue.TheVariants.{Use, Binary}
 use Rattle.mir_ir.specs.WellFormed.{OperandsHave, PlaceHas, RvalueHas}
 use Rattle.source_kinds.specs.declared.kinds.BinaryOp.{BinaryOp}
+use Rattle.source_kinds.specs.declared.kinds.BinaryOp.TheVariants.{Eq}
 use Rattle.type_check.specs.declared.program.Signature.{Signature}
 use Rattle.type_check.specs.TypedExpr.{TypedExpr}
 use Rattle.type_check.specs.TypedExprView.{ty_of}
@@ -18,12 +19,12 @@ use Rattle.type_check.specs.Plain.{IsScalar, AllScalar}
 use Rattle.type_check.specs.WellTyped.{Surroundings, within_loop, EachSpeaks, operation_ty, unit}
 use Rattle.mir_ir.specs.declared.terminator.TerminatorKind.TheVariants.{Goto}
 use Rattle.mir_build.specs.Text.{Line, Leaves, made}
-use Rattle.mir_build.specs.Lowering.{Around, Formula, accepted, whole, looping, binds, moved, ends, dies, dies_in, die_from, puts, puts_at, put_unit, made_by, test, fork, calls, turning, spinning, circling, IntoBody}
+use Rattle.mir_build.specs.Lowering.{Around, Formula, accepted, whole, looping, binds, moved, ends, dies, dies_in, die_from, puts, puts_at, put_unit, made_by, test, fork, split, met, calls, turning, spinning, circling, IntoBody}
 use Rattle.mir_build.proofs.LawNames.{head_fits}
 use Rattle.mir_build.proofs.LawTyped.{operation_has, operation_scalar, signed, scalar_more, scalar_at, is_local, AreTyped, typed-append, MadeFits, made_first, made_rest, made_left, made_right, ScopeFits, scope_at, scope_more, scope_length, scope_holds, scope_has}
 use Rattle.mir_build.proofs.LawLists.{Has, here, there}
 use Rattle.mir_build.proofs.Jumps.{deaths, first_dies_last, has_drop}
-use Rattle.mir_build.proofs.TypedShapes.{Takes, of_number, of_bool, of_unit, of_copy, of_minus, of_not, of_widening, of_operation, KeepsTyped, of_typed_body}
+use Rattle.mir_build.proofs.TypedShapes.{Takes, of_number, of_bool, of_unit, of_copy, of_minus, of_not, of_widening, of_operation, Asked, truth_asked, number_asked, KeepsTyped, of_typed_body}
 use Rattle.mir_build.proofs.PlainTyping.{IsPlainlyTyped}
 
 -- the body of a callee has the types of its signature
@@ -59,6 +60,11 @@ NamesTyped bodies b c Γ p T xs = Known b c Γ → MadeFits b (made xs) → AreT
 
 abbrev pub PassesTyped : Bodies → Body → Around → List Ty → List ℕ → List Ty → List Line → Type 0
 PassesTyped bodies b c Γ ts Ts xs = Known b c Γ → MadeFits b (made xs) → AreTyped bodies b xs × OperandsHave b (map moved ts) Ts
+
+-- where the place has a scalar type, the text writes a typed value of a scalar type
+pub record AsksTyped (bodies : Bodies) (b : Body) (c : Around) (Γ : List Ty) (p : Place) (T : Ty) (to : Option Label) (d : ℕ) (U : Ty) (xs : List Line) : Type 0 where
+  pub scalar : AllScalar Γ → IsScalar T → IsScalar U
+  pub typed : Known b c Γ → IsScalar T → PlaceHas b p T → slice_get b.locals d ≡ Some U → MadeFits b (made xs) → AreTyped bodies b xs
 
 module _ (σ : Surroundings) (bodies : Bodies) (b : Body) (callees : (n : ℕ) (g : Signature) → slice_get σ.signatures n ≡ Some g → Callee bodies n g)
     (answers : (n : ℕ) (g : Signature) → slice_get σ.signatures n ≡ Some g → IsScalar g.answer) (own_answer : slice_get b.locals 0 ≡ Some σ.answer) where
@@ -126,6 +132,32 @@ module _ (σ : Surroundings) (bodies : Bodies) (b : Body) (callees : (n : ℕ) (
       → MadeFits b (made (fork c s t yes' no' ys zs)) → AreTyped bodies b (fork c s t yes' no' ys zs)
   typed_fork c s t yes' no' ys zs h p q m = ((refl, h), tt, typed-append bodies b ys _ (p (made_left b ys _ m)) (tt, tt, q (made_right b ys _ m)))
 
+  abbrev Asks : Around → List Ty → Place → Ty → Option Label → ℕ → Ty → List Line → Type 0
+  Asks c Γ p T to d U xs = AsksTyped bodies b c Γ p T to d U xs
+
+  asked_typed : (T : Ty) (p : Place) (r : Rvalue) → Asked T p r → PlaceHas b p T → RvalueHas bodies b r bool
+  asked_typed T p r (truth_asked e) w = subst (PlaceHas b p) e w
+  asked_typed T p r (number_asked k e f) w = (T, w, (e, f), operation_has Eq T bool (ap (operation_ty Eq) e))
+
+  typed_asked : (c : Around) (Γ : List Ty) (s : Span) (p : Place) (T : Ty) (to : Option Label) (u : ℕ) (r : Rvalue) (yes' no' : Label) (d : ℕ) (U : Ty) (xs ys : List Line) → Asked T p r → Asks c Γ p T to d U xs → Asks c Γ p T to d U ys
+      → Asks c Γ p T to d U (made_by u bool (puts s u r ∷ []) ++ split c s u yes' no' to xs ys)
+  typed_asked c Γ s p T to u r yes' no' d U xs ys e q q' = record {
+    scalar = q.scalar;
+    typed = λ k g w a m.
+        let at_u = made_first b u _ _ m in
+        let rest = made_rest b u _ _ m in (
+          tt,
+          (
+            (bool, (refl, at_u), asked_typed T p r e w),
+            ((refl, at_u), tt, typed-append bodies b xs _ (q.typed k g w a (made_left b xs _ rest)) (tt, tt, q'.typed k g w a (made_right b xs _ rest))),
+          ),
+        );
+  }
+
+  typed_met : (c : Around) (s : Span) (to : Option Label) → AreTyped bodies b (met c s to)
+  typed_met c s None = tt
+  typed_met c s (Some l) = (tt, tt, tt)
+
   typed_turning : (c : Around) (Γ : List Ty) (s : Span) (head body after : Label) (fs : List Formula) (t : ℕ) (T : Ty) (xs : List Line) (u : ℕ) (U : Ty) (ys : List Line) (d : ℕ) (V : Ty) → T ≡ bool → V ≡ unit → EachSpeaks (length Γ) (map accepted fs)
       → Writes (looping c head after) Γ [] t T xs → Writes (looping c head after) Γ [] u U ys → Known b c Γ → At d V → MadeFits b (made (turning c s head body after fs t T xs u U ys (put_unit s d ∷ [])))
       → AreTyped bodies b (turning c s head body after fs t T xs u U ys (put_unit s d ∷ []))
@@ -189,7 +221,7 @@ module _ (σ : Surroundings) (bodies : Bodies) (b : Body) (callees : (n : ℕ) (
         ),
       )
 
-  keeps_typed : KeepsTyped σ Writes (NamesTyped bodies b) (PassesTyped bodies b)
+  keeps_typed : KeepsTyped σ Writes (NamesTyped bodies b) (PassesTyped bodies b) Asks
   keeps_typed = record {
     put = λ c Γ ts s d r T h. record { scalar = λ g ts'. value_scalar c Γ ts r T h g; typed = λ k g at a m. ((T, (refl, a), value_typed c Γ ts r T h k at), tt) };
     made = λ c Γ ts t T xs d U ys p q. record {
@@ -216,6 +248,18 @@ module _ (σ : Surroundings) (bodies : Bodies) (b : Body) (callees : (n : ℕ) (
       scalar = λ g h. p.scalar g tt;
       typed = λ k g at a m. typed_fork c s t yes' no' xs ys (at_type t _ _ at.0 e) (p.typed k tt tt a) (q.typed k tt tt a) m;
     };
+    armed = λ c Γ p T to d U xs q. record { scalar = λ g h. q.scalar g tt; typed = λ k g w a m. q.typed k tt tt a m };
+    named_there = λ c Γ s p T to x d U xs q. record {
+      scalar = λ g h. q.scalar g (h, tt);
+      typed = λ k g w a m. let at_x = made_first b x _ _ m in (g, ((T, (refl, at_x), w), q.typed k (g, tt) (at_x, tt) a (made_rest b x _ _ m)));
+    };
+    asked = typed_asked;
+    matched = λ c Γ s p T to d U xs ys g n q. record {
+      scalar = λ h ts. q.scalar h g;
+      typed = λ k ts at a m.
+          let w = n k (made_left b xs _ m) in
+          typed-append bodies b xs _ w.0 (typed-append bodies b ys _ (q.typed k g w.1 a (made_left b ys _ (made_right b xs _ m))) (typed_met c s to));
+    };
     turned = λ c Γ s head body after fs t T xs u U ys d V e v h p q. record { scalar = λ g ts. is_unit V v; typed = λ k g at a m. typed_turning c Γ s head body after fs t T xs u U ys d V e v h p q k a m };
     named = λ c Γ v p T q h k m. (tt, scope_at b c.scope Γ v p T k.scope q h);
     temporary = λ c Γ t T xs p k m. let at_t = made_first b t _ _ m in ((p.scalar k.scalar_types tt, p.typed k tt tt at_t (made_rest b t _ _ m)), (refl, at_t));
@@ -234,4 +278,4 @@ module _ (σ : Surroundings) (bodies : Bodies) (b : Body) (callees : (n : ℕ) (
   }
 
   pub text_typed : (i : Bool) (c : Around) (e : TypedExpr) (xs : List Line) → IntoBody c e xs → (Γ : List Ty) → Known b c Γ → IsPlainlyTyped (within_loop i σ) Γ e → At 0 (ty_of e) → MadeFits b (made xs) → AreTyped bodies b xs
-  text_typed i c e xs p Γ k h a m = (of_typed_body σ Writes (NamesTyped bodies b) (PassesTyped bodies b) keeps_typed i c e xs p Γ h).typed k tt tt a m
+  text_typed i c e xs p Γ k h a m = (of_typed_body σ Writes (NamesTyped bodies b) (PassesTyped bodies b) Asks keeps_typed i c e xs p Γ h).typed k tt tt a m

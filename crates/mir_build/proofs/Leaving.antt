@@ -59,3 +59,12 @@ pub sides_serve : (a b : TypedExpr) (d : ℕ) (T : Ty) (d' : ℕ) (U : Ty) → l
     → Serves (leaves a) d (ty_of a) d' U × Serves (leaves b) d (ty_of b) d' U
 sides_serve a b d T d' U n f g (inl w) = (side_serves a d T d' U w.0 w.1 f, side_serves b d T d' U w.0 w.1 g)
 sides_serve a b d T d' U n f g (inr w) = let l = both_left (leaves a) (leaves b) n in (inr (l.0, w.1), inr (l.1, w.1))
+
+-- an arm of a match, whose arms all leave where this says so
+pub arm_serves : (e : TypedExpr) (all : Bool) (d : ℕ) (T : Ty) (d' : ℕ) (U : Ty) → IsScalarOrLeaves T e → Serves (leaves e && all) d T d' U → Serves (leaves e) d (ty_of e) d' U
+arm_serves e all d T d' U h (inl w) = side_serves e d T d' U w.0 w.1 h
+arm_serves e all d T d' U h (inr w) = inr ((both_left (leaves e) all w.0).0, w.1)
+
+pub later_serve : (e : TypedExpr) (all : Bool) (d : ℕ) (T : Ty) (d' : ℕ) (U : Ty) → Serves (leaves e && all) d T d' U → Serves all d T d' U
+later_serve e all d T d' U (inl w) = inl w
+later_serve e all d T d' U (inr w) = inr ((both_left (leaves e) all w.0).1, w.1)

@@ -24,6 +24,7 @@ pub mod LawTyped
 pub mod LawTypes
 pub mod LawsOfPrograms
 pub mod Leaving
+pub mod MatchParts
 pub mod Numbers
 pub mod OneBody
 pub mod OneText

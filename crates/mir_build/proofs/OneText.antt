@@ -1,30 +1,37 @@
 -- By the rows: a text whose labels and locals are in order is the numbered one.
-use Rattle.std.proofs.Common.{◌≡◌, refl, ap, sym, ◌∙◌, ℕ, ◌+◌, Bool, true, false, List, [], ◌∷◌, ◌++◌, ◌-◌, length, map, Some, slice_get, arith, true≢false}
+use Rattle.std.proofs.Common.{◌≡◌, refl, ap, sym, ◌∙◌, ℕ, ◌+◌, Bool, true, false, List, [], ◌∷◌, ◌++◌, ◌-◌, length, map, Option, Some, None, slice_get, arith, true≢false}
+use Rattle.std.specs.Prelude.{is_none}
 use Rattle.std.proofs.lemmas.Option.{get_or_from_slice_get}
 use Rattle.text_core.specs.declared.span.Span.{Span}
-use Rattle.mir_ir.specs.declared.place.Operand.TheVariants.{Copy}
+use Rattle.logic_term.specs.declared.kinds.Label.{Label}
+use Rattle.logic_term.specs.Ty.{Ty, bool}
+use Rattle.source_kinds.specs.declared.kinds.BinaryOp.TheVariants.{Eq}
+use Rattle.mir_ir.specs.declared.place.Lit.TheVariants as lit
+use Rattle.mir_ir.specs.declared.place.Operand.TheVariants.{Copy, Const}
 use Rattle.mir_ir.specs.declared.place.Place.{Place}
 use Rattle.mir_ir.specs.declared.statement.Rvalue.TheVariants.{Use, Binary, Neg, Not, Widen, Make}
 use Rattle.mir_ir.specs.declared.terminator.FnId.TheVariants as fn_id
 use Rattle.mir_ir.specs.declared.terminator.Callee.TheVariants.{Function}
 use Rattle.mir_ir.specs.declared.terminator.TerminatorKind.TheVariants.{Goto, If, Call, Return}
-use Rattle.type_check.specs.TypedExpr.{TypedExpr, TypedStmts, TypedExprs, variable, part, block}
+use Rattle.pat_check.specs.Decision.{Decision}
+use Rattle.type_check.specs.Leaves.{all_arms_leave}
+use Rattle.type_check.specs.TypedExpr.{TypedExpr, TypedStmts, TypedExprs, TypedArms, variable, part, block}
 use Rattle.type_check.specs.TypedExprView.{ty_of}
 use Rattle.mir_build.specs.declared.around.Loop.{Loop}
 use Rattle.mir_build.specs.Taking.{is_copied, taken}
 use Rattle.mir_build.specs.Text.{Line, Makes, Turns, Leaves, Owns, made}
-use Rattle.mir_build.specs.Lowering.{Around, binds, looping, at, at_head, head_of, whole, part_place, puts, puts_at, put_unit, moved, ends, innermost, dies_in, die_from, numbers, lazily, test, fork}
+use Rattle.mir_build.specs.Lowering.{Around, binds, looping, at, at_head, head_of, whole, part_place, puts, puts_at, put_unit, moved, ends, innermost, dies_in, die_from, numbers, lazily, test, fork, split, met, labels_at}
 use Rattle.mir_build.specs.Lowering.{Into, of_integer, of_truth, of_variable, of_negative, of_denied, of_cast, of_binary, of_lazy, of_assign, of_update, of_call, of_make, of_part, of_block, of_branch, of_choice, of_leaving_choice, of_repeat, of_panics, of_returned, of_endless, of_until_break, of_break_off, of_go_on}
-use Rattle.mir_build.specs.Lowering.{Rest, of_done, of_last, of_leaving, of_bind, of_run, Args, of_none, of_more, PlaceOf, of_name, of_part_place, of_temporary, is_place, IntoBody, of_outermost, of_other, is_block, named, named_place, named_rest, named_args, named_body}
-use Rattle.mir_build.specs.Numbered.{no_loop, loop_at, place_of, temporary_count, place_text, place_before, text_before, if_text, into, rest, args, body_text, labels, locals, temporaries, label, variable_place}
+use Rattle.mir_build.specs.Lowering.{Rest, of_done, of_last, of_leaving, of_bind, of_run, Args, of_none, of_more, PlaceOf, of_name, of_part_place, of_temporary, of_matched, Tests, at_arm, on_truth, on_literal, ArmInto, of_unbound, of_bound, of_later, is_place, IntoBody, of_outermost, of_other, is_block, named, named_place, named_tests, named_arm, named_rest, named_args, named_body}
+use Rattle.mir_build.specs.Numbered.{kind_of, behind_label, behind_labels, tests_take, tests_text, tests_of, arm_labels, arm_locals, arm_into, no_loop, loop_at, place_of, temporary_count, place_text, place_before, text_before, if_text, into, rest, args, body_text, labels, locals, temporaries, label, variable_place}
 use Rattle.mir_build.proofs.Numbers.{makings}
-use Rattle.mir_build.proofs.Fills.{fills, target_fills, numbers_of}
+use Rattle.mir_build.proofs.Fills.{fills, target_fills, tests_filled, arms_filled, numbers_of}
 use Rattle.mir_build.proofs.Order.{InOrder}
 use Rattle.mir_build.proofs.Accepted.{formulas_are}
 use Rattle.mir_build.proofs.Rows.{own_local, own_locals}
 use Rattle.mir_build.proofs.Following.{From, from_left, two, three, order_left, order_right, order_lazy}
 use Rattle.mir_build.proofs.Taking.{one_takes}
-use Rattle.mir_build.proofs.Rowwise.{labels_behind, labels_behind_args}
+use Rattle.mir_build.proofs.Rowwise.{labels_behind, labels_behind_args, labels_behind_place, labels_behind_met, labels_behind_tests}
 
 -- the place of a variable in scope
 found : (scope : List Place) (v : ℕ) (p : Place) → slice_get scope v ≡ Some p → p ≡ variable_place scope v
@@ -49,6 +56,20 @@ whole_temporary scope t e h = refl
 
 temporary_before : (e : TypedExpr) (c : Around) (l t : ℕ) → is_place e ≡ false → text_before e c l t ≡ Makes t (ty_of e) ∷ into e c l (t + 1) t
 temporary_before e c l t h = ap (λ b. place_text b t (ty_of e) (place_before e c l t) (into e c l (t + 1) t)) h
+
+-- the block behind a match
+behind_is : (to : Option Label) (all : Bool) (m : ℕ) (ns : List ℕ) → all ≡ is_none to → From m (labels_at to ++ ns) → to ≡ behind_label all m
+behind_is None all m ns q h = ap (λ b. behind_label b m) (sym q)
+behind_is (Some l) all m ns q h = (λ i. Some (label (h.0 i))) ∙ ap (λ b. behind_label b m) (sym q)
+
+-- the locals behind those of the tests
+abbrev numbered_tests : Around → Span → Ty → Place → TypedArms → Option Label → Decision → ℕ → ℕ → ℕ → List Line
+numbered_tests c s T x as' to D d l t = tests_text c s T x to (arm_labels as') (arm_locals as') (arm_into as' c s T x d) D l t
+
+behind_tests : (c : Around) (s : Span) (T : Ty) (x : Place) (as' : TypedArms) (to : Option Label) (D : Decision) (d l t : ℕ) (xs ys : List Line) → xs ≡ numbered_tests c s T x as' to D d l t → InOrder t (xs ++ ys)
+    → InOrder (t + tests_take 1 (arm_locals as') D) ys
+behind_tests c s T x as' to D d l t xs ys q h =
+    order_right t (t + tests_take 1 (arm_locals as') D) xs ys (omega (arith, ap makings q, (tests_filled c s T x to (arm_labels as') (arm_locals as') (arm_into as' c s T x d) (arms_filled as' c s T x d) D l t).making)) h
 
 mutual
   one_text : (c : Around) (e : TypedExpr) (d : ℕ) (xs : List Line) (p : Into c e d xs) (l t : ℕ) → From l (named p) → InOrder t xs → xs ≡ into e c l t d
@@ -130,6 +151,16 @@ mutual
       let y = one_text c b d vs q (m + 2) u (from_left (m + 2) (named q) (named r) k.2) (order_left u vs _ g) in
       let z = one_text c b' d ws r (m + 2 + labels b) (u + locals b) (labels_behind q (m + 2) (named r) k.2) (behind b c (m + 2) u d vs _ y g) in
       (λ i. Makes (o.0 i) (ty_of a) ∷ (x i ++ fork c s (o.0 i) (label (k.0 i)) (label (k.1 i)) (y i) (z i))) ∙ ap (λ both. if_text both a b b' s d c l t) (sym k')
+  one_text c e d xs (of_matched {s = s} {e = a} {as' = as'} {p = z} D to {xs = us} {ys = vs} q w p r) l t n o =
+      let m = l + labels a in
+      let all = all_arms_leave as' in
+      let k = labels_behind_place p l (labels_at to ++ named_tests r) n in
+      let y = one_place c a z us p l t (from_left l (named_place p) _ n) (order_left t us _ o) in
+      let u = t + temporary_count (is_place a) + locals a in
+      let g = behind_is to all m (named_tests r) w k in
+      let x = one_tests c s (ty_of a) z as' to D d vs r (m + behind_labels all) u (labels_behind_met to all m (named_tests r) w k) (order_left u vs _ (behind_target a c l t us _ y.1 o)) in
+      (λ i. y.1 i ++ (x i ++ met c s to))
+      ∙ (λ i. text_before a c l t ++ (tests_of c s (ty_of a) (y.0 i) (g i) (arm_labels as') (arm_locals as') (arm_into as' c s (ty_of a) (y.0 i) d) (sym q i) (m + behind_labels all) u ++ met c s (g i)))
   one_text c e d xs (of_repeat {s = s} {is = is} {e = a} {b = b} {t = t'} {u = u'} head body after fs {xs = us} {ys = vs} g p q) l t n o =
       let f = formulas_are is fs g in
       let k = three l head.0 body.0 after.0 (named p ++ named q) n in
@@ -161,6 +192,29 @@ mutual
       ∷ (y i ++ Turns (ends s (Goto (label (k.0 i)))) (at c (label (k.1 i))) ∷ Owns (label (k.0 i)) (own i) ∷ put_unit s d ∷ [])
   one_text c e d xs (of_break_off {s = s} m q) l t n o = λ i. die_from s (inner c m q i).depth c.scope ++ Leaves (ends s (Goto (inner c m q i).after)) ∷ []
   one_text c e d xs (of_go_on {s = s} m q) l t n o = λ i. die_from s (inner c m q i).depth c.scope ++ Leaves (ends s (Goto (inner c m q i).head)) ∷ []
+
+  one_tests : (c : Around) (s : Span) (T : Ty) (x : Place) (as' : TypedArms) (to : Option Label) (D : Decision) (d : ℕ) (xs : List Line) (p : Tests c s T x as' to D d xs) (l t : ℕ) → From l (named_tests p) → InOrder t xs
+      → xs ≡ numbered_tests c s T x as' to D d l t
+  one_tests c s T x as' to D d xs (at_arm p) l t n o = one_arm c s T x as' _ d xs p l t n o
+  one_tests c s T x as' to D d xs (on_truth {D = D'} {E = E'} u yes' no' {xs = us} {ys = vs} h p q) l t n o =
+      let k = two l yes'.0 no'.0 (named_tests p ++ named_tests q) n in
+      let y = one_tests c s T x as' to D' d us p (l + 2) (t + 1) (from_left (l + 2) (named_tests p) (named_tests q) k.2) (order_left (t + 1) us _ o.1) in
+      let z = one_tests c s T x as' to E' d vs q (l + 2 + tests_take 2 (arm_labels as') D') (t + 1 + tests_take 1 (arm_locals as') D') (labels_behind_tests p (l + 2) (named_tests q) k.2) (behind_tests c s T x as' to D' d (l + 2) (t + 1) us _ y o.1) in
+      λ i. Makes (o.0 i) bool ∷ puts s (o.0 i) (Use (Copy x)) ∷ split c s (o.0 i) (label (k.0 i)) (label (k.1 i)) to (y i) (z i)
+  one_tests c s T x as' to D d xs (on_literal {z = v} {D = D'} {E = E'} u yes' no' j {xs = us} {ys = vs} h g p q) l t n o =
+      let k = two l yes'.0 no'.0 (named_tests p ++ named_tests q) n in
+      let y = one_tests c s T x as' to D' d us p (l + 2) (t + 1) (from_left (l + 2) (named_tests p) (named_tests q) k.2) (order_left (t + 1) us _ o.1) in
+      let z = one_tests c s T x as' to E' d vs q (l + 2 + tests_take 2 (arm_labels as') D') (t + 1 + tests_take 1 (arm_locals as') D') (labels_behind_tests p (l + 2) (named_tests q) k.2) (behind_tests c s T x as' to D' d (l + 2) (t + 1) us _ y o.1) in
+      let e = sym (ap kind_of h) in
+      λ i. Makes (o.0 i) bool ∷ puts s (o.0 i) (Binary Eq (Copy x) (Const (lit.Int v (e i)))) ∷ split c s (o.0 i) (label (k.0 i)) (label (k.1 i)) to (y i) (z i)
+
+  one_arm : (c : Around) (s : Span) (T : Ty) (x : Place) (as' : TypedArms) (n d : ℕ) (xs : List Line) (p : ArmInto c s T x as' n d xs) (l t : ℕ) → From l (named_arm p) → InOrder t xs → xs ≡ arm_into as' c s T x d n l t
+  one_arm c s T x as' m d xs (of_unbound p) l t n o = one_text c _ d xs p l t n o
+  one_arm c s T x as' m d xs (of_bound {e = a} {o = w} y {xs = us} e k p) l t n o =
+      let z = one_text (binds c y) a d us p l (t + 1) n (order_left (t + 1) us _ o.1) ∙ (λ i. into a (binds c (o.0 i)) l (t + 1) d) in
+      let v = one_takes c.types T x w k in
+      λ i. Makes (o.0 i) T ∷ puts s (o.0 i) (Use (v i)) ∷ (z i ++ dies_in false s (o.0 i))
+  one_arm c s T x as' m d xs (of_later p) l t n o = one_arm c s T x _ _ d xs p l t n o
 
   one_place : (c : Around) (e : TypedExpr) (x : Place) (xs : List Line) (p : PlaceOf c e x xs) (l t : ℕ) → From l (named_place p) → InOrder t xs
       → (x ≡ place_of c.scope t e) × (xs ≡ text_before e c l t)

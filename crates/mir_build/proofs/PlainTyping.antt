@@ -8,10 +8,10 @@ use Rattle.type_check.specs.declared.program.Signature.{Signature}
 use Rattle.type_check.specs.declared.program.TypedFunction.{TypedFunction}
 use Rattle.type_check.specs.Breaks.{breaks}
 use Rattle.type_check.specs.Leaves.{leaves}
-use Rattle.type_check.specs.Plain.{IsScalar, AllScalar, IsPlain, StatementsArePlain, ArePlain, FunctionIsPlain}
-use Rattle.type_check.specs.TypedExpr.{TypedExpr, TypedStmts, TypedExprs, integer, truth, variable, negative, denied, cast, binary, lazy, assign, update, call, make, part, block, branch, choice, matched, repeat, panics, returned, endless, until_break, break_off, go_on, done, last, leaving, bind, run, none, more}
+use Rattle.type_check.specs.Plain.{IsScalar, AllScalar, IsPlain, StatementsArePlain, ArePlain, ArmsArePlain, FunctionIsPlain}
+use Rattle.type_check.specs.TypedExpr.{TypedExpr, TypedStmts, TypedExprs, integer, truth, variable, negative, denied, cast, binary, lazy, assign, update, call, make, part, block, branch, choice, matched, repeat, panics, returned, endless, until_break, break_off, go_on, done, last, leaving, bind, run, none, more, TypedArms, no_arms, with_arm}
 use Rattle.type_check.specs.TypedExprView.{ty_of}
-use Rattle.type_check.specs.WellTyped.{unit, is_signed, operation_ty, EachSpeaks, Surroundings, looping, outside, surroundings_of, IsOf, IsOfOrLeaves, ClausesSpeak, IsWellTyped, StatementsFit, ArgumentsFit, FunctionFits}
+use Rattle.type_check.specs.WellTyped.{unit, is_signed, operation_ty, EachSpeaks, Surroundings, looping, outside, surroundings_of, IsOf, IsOfOrLeaves, ClausesSpeak, IsWellTyped, StatementsFit, ArgumentsFit, ArmsFit, tys_bound, FunctionFits}
 
 -- it has the type, or never a value, whichever scalar type is asked
 abbrev pub IsScalarOrLeaves : Ty → TypedExpr → Type 0
@@ -36,7 +36,7 @@ abbrev mutual
   IsPlainlyTyped σ Γ (branch t s c a) = (t ≡ unit) × IsOf bool c × IsOf unit a × IsPlainlyTyped σ Γ c × IsPlainlyTyped σ Γ a
   -- a side that leaves fits any type
   IsPlainlyTyped σ Γ (choice t s c a b) = IsOf bool c × IsScalarOrLeaves t a × IsScalarOrLeaves t b × IsPlainlyTyped σ Γ c × IsPlainlyTyped σ Γ a × IsPlainlyTyped σ Γ b
-  IsPlainlyTyped σ Γ (matched t s e as') = ⊥
+  IsPlainlyTyped σ Γ (matched t s e as') = IsScalar (ty_of e) × IsPlainlyTyped σ Γ e × ArmsFitPlainly σ Γ t as'
   IsPlainlyTyped σ Γ (repeat t s is c b) = (t ≡ unit) × EachSpeaks (length Γ) is × IsOf bool c × IsOf unit b × IsPlainlyTyped (outside σ) Γ c × IsPlainlyTyped (looping σ) Γ b
   -- what leaves is of any scalar type
   IsPlainlyTyped σ Γ (panics t s k) = IsScalar t
@@ -60,6 +60,11 @@ abbrev mutual
   ArgumentsFitPlainly σ Γ (more e es) (t ∷ ts) = IsOf t e × IsPlainlyTyped σ Γ e × ArgumentsFitPlainly σ Γ es ts
   ArgumentsFitPlainly σ Γ _ _ = ⊥
 
+  -- the arms of a match of the type
+  pub ArmsFitPlainly : Surroundings → List Ty → Ty → TypedArms → Type 0
+  ArmsFitPlainly σ Γ t no_arms = Unit {0}
+  ArmsFitPlainly σ Γ t (with_arm p xs e as') = IsScalarOrLeaves t e × IsPlainlyTyped σ (Γ ++ tys_bound xs) e × ArmsFitPlainly σ Γ t as'
+
 pub record FunctionFitsPlainly (ds : List AdtDecl) (σ : List Signature) (f : TypedFunction) : Type 0 where
   pub params : AllScalar f.signature.params
   pub answer : IsScalar f.signature.answer
@@ -72,6 +77,32 @@ pub record FunctionFitsPlainly (ds : List AdtDecl) (σ : List Signature) (f : Ty
 side : (t : Ty) (e : TypedExpr) → IsScalar t → IsOfOrLeaves t e → IsScalarOrLeaves t e
 side t e s (inl h) = inl h
 side t e s (inr h) = inr (h.0, s)
+
+plain_scalar : (e : TypedExpr) → IsPlain e → IsScalar (ty_of e)
+plain_scalar (integer t s z k) p = p
+plain_scalar (truth t s b) p = p
+plain_scalar (variable t s x) p = p
+plain_scalar (negative t s e) p = p.0
+plain_scalar (denied t s e) p = p.0
+plain_scalar (cast t s e) p = p.0
+plain_scalar (binary t s op a b) p = p.0
+plain_scalar (lazy t s op a b) p = p.0
+plain_scalar (assign t s a e) p = p.0
+plain_scalar (update t s op a e) p = p.0
+plain_scalar (call t s f es) p = p.0
+plain_scalar (make t s c es) p = absurd p
+plain_scalar (part t s e n) p = absurd p
+plain_scalar (block t s ss) p = p.0
+plain_scalar (branch t s c a) p = p.0
+plain_scalar (choice t s c a b) p = p.0
+plain_scalar (matched t s e as') p = p.0
+plain_scalar (repeat t s is c b) p = p.0
+plain_scalar (panics t s k) p = p
+plain_scalar (returned t s e) p = p.0
+plain_scalar (endless t s is b) p = p.0
+plain_scalar (until_break t s is b) p = p.0
+plain_scalar (break_off t s) p = p
+plain_scalar (go_on t s) p = p
 
 mutual
   pub plainly : (σ : Surroundings) (Γ : List Ty) (e : TypedExpr) → IsPlain e → IsWellTyped σ Γ e → IsPlainlyTyped σ Γ e
@@ -91,7 +122,7 @@ mutual
   plainly σ Γ (block t s ss) p h = plain_statements σ Γ t ss p.0 p.1 h
   plainly σ Γ (branch t s c a) p h = (h.0, h.1, h.2, plainly σ Γ c p.1 h.3, plainly σ Γ a p.2 h.4)
   plainly σ Γ (choice t s c a b) p h = (h.0, side t a p.0 h.1, side t b p.0 h.2, plainly σ Γ c p.1 h.3, plainly σ Γ a p.2 h.4, plainly σ Γ b p.3 h.5)
-  plainly σ Γ (matched t s e as') p h = p
+  plainly σ Γ (matched t s e as') p h = (plain_scalar e p.1, plainly σ Γ e p.1 h.0, plain_arms σ Γ (ty_of e) t as' p.0 p.2 h.1)
   plainly σ Γ (repeat t s is c b) p h = (h.0, h.1, h.2, h.3, plainly (outside σ) Γ c p.1 h.4, plainly (looping σ) Γ b p.2 h.5)
   plainly σ Γ (panics t s k) p h = p
   plainly σ Γ (returned t s e) p h = (p.0, h.1, plainly σ Γ e p.1 h.2)
@@ -112,6 +143,10 @@ mutual
   plain_arguments σ Γ none (t ∷ ts) p h = h
   plain_arguments σ Γ (more e es) [] p h = h
   plain_arguments σ Γ (more e es) (t ∷ ts) p h = (h.0, plainly σ Γ e p.0 h.1, plain_arguments σ Γ es ts p.1 h.2)
+
+  plain_arms : (σ : Surroundings) (Γ : List Ty) (u t : Ty) (as' : TypedArms) → IsScalar t → ArmsArePlain as' → ArmsFit σ Γ u t as' → ArmsFitPlainly σ Γ t as'
+  plain_arms σ Γ u t no_arms s p h = tt
+  plain_arms σ Γ u t (with_arm q xs e as') s p h = (side t e s h.1, plainly σ (Γ ++ tys_bound xs) e p.0 h.2, plain_arms σ Γ u t as' s p.1 h.3)
 
 pub fits_plainly : (ds : List AdtDecl) (σ : List Signature) (f : TypedFunction) → FunctionIsPlain f → FunctionFits ds σ f → FunctionFitsPlainly ds σ f
 fits_plainly ds σ f p h = record { params = p.params; answer = p.answer; clauses = h.clauses; body = plainly (surroundings_of ds σ f.signature) f.signature.params f.body p.body h.body; of_answer = h.of_answer }

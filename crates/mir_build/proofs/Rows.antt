@@ -1,5 +1,6 @@
 -- Where each variable is in scope and no invariant is refused, the numbered text is a text of the rows, which name their labels in order.
-use Rattle.std.proofs.Common.{◌≡◌, refl, ap, sym, subst, true≢false, ℕ, zero, suc, ◌+◌, ◌-◌, ◌≤◌, ◌&&◌, Bool, true, false, List, [], ◌∷◌, ◌++◌, length, length-append, map, Some, None, arith}
+use Rattle.std.proofs.Common.{◌≡◌, ◌∙◌, refl, ap, sym, subst, true≢false, ℕ, zero, suc, ◌+◌, ◌-◌, ◌≤◌, ◌&&◌, Bool, true, false, List, [], ◌∷◌, ◌++◌, length, length-append, map, Option, Some, None, append-nil, arith}
+use Rattle.std.specs.Prelude.{is_none}
 use Rattle.std.specs.List.{slice_get, range_with_len}
 use Rattle.std.proofs.lemmas.Option.{slice_get_within, slice_get-get_or}
 use Rattle.text_core.specs.declared.span.Span.{Span}
@@ -7,22 +8,31 @@ use Rattle.logic_term.specs.declared.kinds.Label.{Label}
 use Rattle.logic_term.specs.Ty.{Ty, int}
 use Rattle.source_kinds.specs.declared.kinds.IntKind.{IntKind}
 use Rattle.mir_ir.specs.declared.place.Place.{Place}
+use Rattle.logic_term.specs.declared.pattern.BindingKind.TheVariants.{Value, Shared, Unique}
+use Rattle.logic_term.specs.Pattern.{Pat, wild, bound, literal, truth as truth_pattern, shape}
+use Rattle.source_kinds.specs.Range.{fits}
+use Rattle.pat_check.specs.Decision.{Decision}
+use Rattle.pat_check.specs.Flat.{is_flat, all_flat, FlatDecision, at_leaf, flat_tree}
+use Rattle.pat_check.specs.Flat as flat
+use Rattle.pat_check.proofs.FlatTrees.{flat_decision}
+use Rattle.pat_types.specs.declared.names.BoundName.{BoundName}
+use Rattle.pat_types.specs.Laws.{BindsAlone}
 use Rattle.type_check.specs.declared.assertion.Assertion.{Assertion}
-use Rattle.type_check.specs.TypedExpr.{TypedExpr, TypedStmts, TypedExprs, integer, truth, variable, negative, denied, cast, binary, lazy, assign, update, call, make, part, block, branch, choice, matched, repeat, panics, returned, endless, until_break, break_off, go_on, done, last, leaving, bind, run, none, more}
-use Rattle.type_check.specs.Leaves.{leaves}
-use Rattle.type_check.specs.TypedExprView.{ty_of}
-use Rattle.type_check.specs.FirstBad.{bad_among, bad_in, bad_in_arms, bad_in_stmts, bad_in_exprs}
-use Rattle.type_check.specs.Answers.{or_else, unbuilt}
-use Rattle.type_check.specs.WellTyped.{Surroundings, within_loop, IsWellTyped, StatementsFit, ArgumentsFit, PartsFit}
+use Rattle.type_check.specs.TypedExpr.{TypedExpr, TypedStmts, TypedExprs, integer, truth, variable, negative, denied, cast, binary, lazy, assign, update, call, make, part, block, branch, choice, matched, repeat, panics, returned, endless, until_break, break_off, go_on, done, last, leaving, bind, run, none, more, TypedArms, no_arms, with_arm}
+use Rattle.type_check.specs.Leaves.{leaves, all_arms_leave}
+use Rattle.type_check.specs.TypedExprView.{ty_of, patterns_of}
+use Rattle.type_check.specs.FirstBad.{bad_among, bad_in, bad_in_arms, bad_in_stmts, bad_in_exprs, match_refusal}
+use Rattle.type_check.specs.Answers.{or_else}
+use Rattle.type_check.specs.WellTyped.{Surroundings, within_loop, IsWellTyped, StatementsFit, ArgumentsFit, PartsFit, ArmsFit}
 use Rattle.mir_build.specs.Lowering.{is_place, Around, accepted, whole, binds, looping, innermost, Into, of_integer, of_truth, of_variable, of_negative, of_denied, of_cast, of_binary, of_lazy, of_assign, of_update, of_call, of_make, of_part, of_block, of_branch}
-use Rattle.mir_build.specs.Lowering.{of_choice, of_leaving_choice, of_repeat, of_panics, of_returned, of_endless, of_until_break, of_break_off, of_go_on, Rest, of_done, of_last, of_leaving, of_bind, of_run, Args, of_none, of_more, PlaceOf, of_name, of_part_place, of_temporary, IntoBody, of_outermost, of_other, named, named_place, named_rest, named_args, named_body}
+use Rattle.mir_build.specs.Lowering.{of_choice, of_leaving_choice, of_repeat, of_panics, of_returned, of_endless, of_until_break, of_break_off, of_go_on, Rest, of_done, of_last, of_leaving, of_bind, of_run, Args, of_none, of_more, PlaceOf, of_name, of_part_place, of_temporary, of_matched, Tests, at_arm, on_truth, on_literal, ArmInto, of_unbound, of_bound, of_later, met, labels_at, IntoBody, of_outermost, of_other, named, named_place, named_tests, named_arm, named_rest, named_args, named_body}
 use Rattle.mir_build.specs.Text.{Line, Makes}
-use Rattle.mir_build.specs.Numbered.{no_loop, loop_at, place_of, text_before, place_before, choice_labels, choice_text, formula_of, into, rest, args, body_text, labels, labels_in, locals, temporaries, label, variable_place, between}
-use Rattle.mir_build.proofs.Accepted.{first_none, second_none, no_match, all_accepted}
+use Rattle.mir_build.specs.Numbered.{kind_of, behind_label, behind_labels, tests_take, tests_text, tests_of, arm_labels, arm_locals, arm_into, temporary_count, no_loop, loop_at, place_of, text_before, place_before, choice_labels, choice_text, formula_of, into, rest, args, body_text, labels, labels_in, locals, temporaries, label, variable_place, between}
+use Rattle.mir_build.proofs.Accepted.{first_none, second_none, flat_match, all_accepted}
 use Rattle.mir_build.proofs.Fills.{numbers_of}
-use Rattle.mir_build.proofs.Following.{From, then_two, then_three}
+use Rattle.mir_build.proofs.Following.{From, from_both, then_two, then_three}
 use Rattle.mir_build.proofs.Taking.{takes}
-use Rattle.mir_build.proofs.Rowwise.{labels_then, labels_then_args}
+use Rattle.mir_build.proofs.Rowwise.{labels_then, labels_then_args, labels_then_place, labels_then_tests}
 
 -- there is a place for each variable
 abbrev pub IsFor : List Ty → List Place → Type 0
@@ -126,6 +136,74 @@ chosen false ty s e a b c l m t d xs ys zs n k p q r =
     let behind : From m (m ∷ (m + 1) ∷ (m + 2) ∷ ns) = then_three m ns (labels_then q.0 (m + 3) (named r.0) q.1 r.1) in
     (of_choice (label m) (label (m + 1)) (label (m + 2)) n p.0 q.0 r.0, labels_then p.0 l (m ∷ (m + 1) ∷ (m + 2) ∷ ns) p.1 (subst (λ i. From i (m ∷ (m + 1) ∷ (m + 2) ∷ ns)) k behind))
 
+-- ---- `match`
+
+abbrev pub TestsLowered : Around → Span → Ty → Place → TypedArms → Option Label → Decision → ℕ → ℕ → List Line → Type 0
+TestsLowered c s T x as' to D d l xs = (p : Tests c s T x as' to D d xs) × From l (named_tests p)
+
+abbrev pub ArmLowered : Around → Span → Ty → Place → TypedArms → ℕ → ℕ → ℕ → List Line → Type 0
+ArmLowered c s T x as' n d l xs = (p : ArmInto c s T x as' n d xs) × From l (named_arm p)
+
+-- the one name of a flat pattern has the type of the value, and there is no other
+own_type : (u : Ty) (q : Pat) (y : BoundName) → BindsAlone u q (y ∷ []) → is_flat u q ≡ true → y.ty ≡ u
+own_type u (wild t) y h f = absurd (cc)
+own_type u (bound t x Value) y h f = let e : y ≡ h.0 = cc in ap (λ (z : BoundName). z.ty) e ∙ h.2
+own_type u (bound t x Shared) y h f = absurd (cc)
+own_type u (bound t x Unique) y h f = absurd (cc)
+own_type u (literal t k z) y h f = absurd (cc)
+own_type u (truth_pattern t b) y h f = absurd (cc)
+own_type u (shape t k ps) y h f = absurd (cc)
+
+no_second : (u : Ty) (q : Pat) (y z : BoundName) (ys : List BoundName) → BindsAlone u q (y ∷ z ∷ ys) → is_flat u q ≡ true → ⊥
+no_second u (wild t) y z ys h f = cc
+no_second u (bound t x k) y z ys h f = let e = h.1 in cc
+no_second u (literal t k w) y z ys h f = cc
+no_second u (truth_pattern t b) y z ys h f = cc
+no_second u (shape t k ps) y z ys h f = cc
+
+first_flat : (a b : Bool) → a && b ≡ true → (a ≡ true) × (b ≡ true)
+first_flat true b e = (refl, e)
+first_flat false b e = absurd (cc)
+
+tests_lower : (c : Around) (s : Span) (T : Ty) (x : Place) (as' : TypedArms) (to : Option Label) (ps : List Pat) (D : Decision) (d : ℕ) → FlatDecision T ps D
+    → ((n : ℕ) (q : Pat) → slice_get ps n ≡ Some q → (l t : ℕ) → ArmLowered c s T x as' n d l (arm_into as' c s T x d n l t)) → (l t : ℕ)
+    → TestsLowered c s T x as' to D d l (tests_text c s T x to (arm_labels as') (arm_locals as') (arm_into as' c s T x d) D l t)
+tests_lower c s T x as' to ps D d (at_leaf {n = n} q e) arms l t =
+    let p = arms n q e l t in
+    (at_arm p.0, p.1)
+tests_lower c s T x as' to ps D d (flat.on_truth {D = D'} {E = E'} e p q) arms l t =
+    let y = tests_lower c s T x as' to ps D' d p arms (l + 2) (t + 1) in
+    let z = tests_lower c s T x as' to ps E' d q arms (l + 2 + tests_take 2 (arm_labels as') D') (t + 1 + tests_take 1 (arm_locals as') D') in
+    (on_truth t (label l) (label (l + 1)) e y.0 z.0, then_two l (named_tests y.0 ++ named_tests z.0) (labels_then_tests y.0 (l + 2) (named_tests z.0) y.1 z.1))
+tests_lower c s T x as' to ps D d (flat.on_literal {D = D'} {E = E'} k {z = v} e f p q) arms l t =
+    let y = tests_lower c s T x as' to ps D' d p arms (l + 2) (t + 1) in
+    let z = tests_lower c s T x as' to ps E' d q arms (l + 2 + tests_take 2 (arm_labels as') D') (t + 1 + tests_take 1 (arm_locals as') D') in
+    let same : k ≡ kind_of T = sym (ap kind_of e) in (
+      on_literal t (label l) (label (l + 1)) (kind_of T) (e ∙ ap int same) (subst (λ j. fits j v ≡ true) same f) y.0 z.0,
+      then_two l (named_tests y.0 ++ named_tests z.0) (labels_then_tests y.0 (l + 2) (named_tests z.0) y.1 z.1),
+    )
+
+is_behind : (all : Bool) (m : ℕ) → all ≡ is_none (behind_label all m)
+is_behind true m = refl
+is_behind false m = refl
+
+then_behind : (all : Bool) (m : ℕ) (ns : List ℕ) → From (m + behind_labels all) ns → From m (labels_at (behind_label all m) ++ ns)
+then_behind true m ns h = from_both m (m + 0) [] ns (omega arith) tt h
+then_behind false m ns h = from_both m (m + 1) (m ∷ []) ns (omega arith) (refl, tt) h
+
+-- a match, by its place and its tests
+matched_by : (ty : Ty) (s : Span) (e : TypedExpr) (as' : TypedArms) (c : Around) (l t d : ℕ) (D : Decision) (zs : List Line) → flat_tree (ty_of e) (patterns_of as') ≡ Some D → PlaceLowered c e (place_of c.scope t e) l (text_before e c l t)
+    → zs ≡ tests_of c s (ty_of e) (place_of c.scope t e) (behind_label (all_arms_leave as') (l + labels e)) (arm_labels as') (arm_locals as') (arm_into as' c s (ty_of e) (place_of c.scope t e) d) (Some D) (l + labels e + behind_labels (all_arms_leave as')) (t + temporary_count (is_place e) + locals e)
+    → TestsLowered c s (ty_of e) (place_of c.scope t e) as' (behind_label (all_arms_leave as') (l + labels e)) D d (l + labels e + behind_labels (all_arms_leave as')) zs → Lowered c (matched ty s e as') d l (into (matched ty s e as') c l t d)
+matched_by ty s e as' c l t d D zs q p r z =
+    let m = l + labels e in
+    let all = all_arms_leave as' in
+    let to = behind_label all m in
+    let row : Lowered c (matched ty s e as') d l _ = (of_matched D to q (is_behind all m) p.0 z.0, labels_then_place p.0 l (labels_at to ++ named_tests z.0) p.1 (then_behind all m (named_tests z.0) z.1)) in
+    subst (λ xs. Lowered c (matched ty s e as') d l xs)
+    (λ i. text_before e c l t ++ ((r ∙ (λ j. tests_of c s (ty_of e) (place_of c.scope t e) to (arm_labels as') (arm_locals as') (arm_into as' c s (ty_of e) (place_of c.scope t e) d) (sym q j) (m + behind_labels all) (t + temporary_count (is_place e) + locals e))) i ++ met c s to))
+    row
+
 mutual
   pub lowers : (σ : Surroundings) (Γ : List Ty) (e : TypedExpr) (c : Around) (l t d : ℕ) → IsFor Γ c.scope → HasLoop σ c → IsWellTyped σ Γ e → bad_in e ≡ None → Lowered c e d l (into e c l t d)
   lowers σ Γ (integer ty s z k) c l t d h o w g = (of_integer, tt)
@@ -187,7 +265,15 @@ mutual
       let q = lowers σ Γ a c n u d h o w.4 (first_none (bad_in a) (bad_in b) (second_none (bad_in e) (or_else (bad_in a) (bad_in b)) g)) in
       let r = lowers σ Γ b c (n + labels a) (u + locals a) d h o w.5 (second_none (bad_in a) (bad_in b) (second_none (bad_in e) (or_else (bad_in a) (bad_in b)) g)) in
       chosen both ty s e a b c l m t d _ _ _ refl refl p q r
-  lowers σ Γ (matched ty s e as') c l t d h o w g = absurd (no_match (bad_in e) (bad_in_arms as') (unbuilt s) g)
+  lowers σ Γ (matched ty s e as') c l t d h o w g =
+      let rest = second_none (bad_in e) (or_else (bad_in_arms as') (match_refusal s (ty_of e) (patterns_of as'))) g in
+      let first = first_none (bad_in e) (or_else (bad_in_arms as') (match_refusal s (ty_of e) (patterns_of as'))) g in
+      let f = flat_match s (ty_of e) (patterns_of as') (second_none (bad_in_arms as') (match_refusal s (ty_of e) (patterns_of as')) rest) in
+      let p = target e c l t (places σ Γ e c l t h o w.0 first) (lowers σ Γ e c l (t + 1) t h o w.0 first) in
+      let arms = arms_lower σ Γ (ty_of e) ty as' c s (place_of c.scope t e) d h o w.1 (first_none (bad_in_arms as') (match_refusal s (ty_of e) (patterns_of as')) rest) f.flat in
+      let tree = flat_decision (ty_of e) (patterns_of as') f.tree f.flat f.is_tree in
+      let q = tests_lower c s (ty_of e) (place_of c.scope t e) as' (behind_label (all_arms_leave as') (l + labels e)) (patterns_of as') f.tree d tree arms (l + labels e + behind_labels (all_arms_leave as')) (t + temporary_count (is_place e) + locals e) in
+      matched_by ty s e as' c l t d f.tree _ f.is_tree p refl q
   lowers σ Γ (repeat ty s is e b) c l t d h o w g =
       let inside = looping c (label l) (label (l + 2)) in
       let u = t + 1 + locals e in
@@ -232,6 +318,20 @@ mutual
       let p = lowers σ Γ e c l (t + 1) t h o w.0 (first_none (bad_in e) (bad_in_stmts ss) g) in
       let q = rests σ Γ ty ss outer s c (l + labels e) (t + 1 + locals e) d h o w.1 (second_none (bad_in e) (bad_in_stmts ss) g) in
       (of_run p.0 q.0, labels_then p.0 l (named_rest q.0) p.1 q.1)
+
+  arms_lower : (σ : Surroundings) (Γ : List Ty) (u ty : Ty) (as' : TypedArms) (c : Around) (s : Span) (x : Place) (d : ℕ) → IsFor Γ c.scope → HasLoop σ c → ArmsFit σ Γ u ty as' → bad_in_arms as' ≡ None → all_flat u (patterns_of as') ≡ true
+      → (n : ℕ) (q : Pat) → slice_get (patterns_of as') n ≡ Some q → (l t : ℕ) → ArmLowered c s u x as' n d l (arm_into as' c s u x d n l t)
+  arms_lower σ Γ u ty no_arms c s x d h o w g f n q e l t = absurd (cc)
+  arms_lower σ Γ u ty (with_arm r [] a as') c s x d h o w g f zero q e l t =
+      let p = lowers σ Γ a c l t d h o (subst (λ Δ. IsWellTyped σ Δ a) (append-nil Γ) w.2) (first_none (bad_in a) (bad_in_arms as') g) in
+      (of_unbound p.0, p.1)
+  arms_lower σ Γ u ty (with_arm r (y ∷ []) a as') c s x d h o w g f zero q e l t =
+      let p = lowers σ (Γ ++ y.ty ∷ []) a (binds c t) l (t + 1) d (one_more Γ c.scope y.ty (whole t) h) o w.2 (first_none (bad_in a) (bad_in_arms as') g) in
+      (of_bound t (own_type u r y w.0.alone (first_flat (is_flat u r) (all_flat u (patterns_of as')) f).0) (takes c.types u x) p.0, p.1)
+  arms_lower σ Γ u ty (with_arm r (y ∷ z ∷ ys) a as') c s x d h o w g f zero q e l t = absurd (no_second u r y z ys w.0.alone (first_flat (is_flat u r) (all_flat u (patterns_of as')) f).0)
+  arms_lower σ Γ u ty (with_arm r ys a as') c s x d h o w g f (suc n) q e l t =
+      let p = arms_lower σ Γ u ty as' c s x d h o w.3 (second_none (bad_in a) (bad_in_arms as') g) (first_flat (is_flat u r) (all_flat u (patterns_of as')) f).1 n q e l t in
+      (of_later p.0, p.1)
 
   arguments : (σ : Surroundings) (Γ : List Ty) (es : TypedExprs) (c : Around) (l t : ℕ) (ts : List Ty) → IsFor Γ c.scope → HasLoop σ c → ArgumentsFit σ Γ es ts → bad_in_exprs es ≡ None → ArgsLowered c es (temporaries es t) l (args es c l t)
   arguments σ Γ none c l t ts h o w g = (of_none, tt)

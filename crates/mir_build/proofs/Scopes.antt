@@ -1,18 +1,23 @@
 -- How many variables have to be in scope around an expression.
-use Rattle.std.proofs.Common.{◌≡◌, refl, ap, get_or, ℕ, ◌+◌, ◌<◌, ◌≤◌, Bool, true, false, List, [], ◌∷◌, ◌++◌, drop, length, length-append, arith}
+use Rattle.std.proofs.Common.{◌≡◌, refl, ap, get_or, ℕ, suc, ◌+◌, ◌<◌, ◌≤◌, Bool, true, false, List, [], ◌∷◌, ◌++◌, drop, length, length-append, arith}
 use Rattle.std.proofs.lemmas.List.{drop_all}
 use Rattle.std.proofs.lemmas.Option.{slice_get_within}
 use Rattle.logic_term.specs.Ty.{Ty}
+use Rattle.pat_types.specs.declared.names.BoundName.{BoundName}
 use Rattle.type_check.specs.declared.typed.TypedStmt.{TypedStmt}
-use Rattle.type_check.specs.TypedExpr.{TypedExpr, TypedStmts, TypedExprs, integer, truth, variable, negative, denied, cast, binary, lazy, assign, update, call, make, part, block, branch, choice, matched, repeat, panics, returned, endless, until_break, break_off, go_on, done, last, leaving, bind, run, none, more}
+use Rattle.type_check.specs.TypedExpr.{TypedExpr, TypedStmts, TypedExprs, integer, truth, variable, negative, denied, cast, binary, lazy, assign, update, call, make, part, block, branch, choice, matched, repeat, panics, returned, endless, until_break, break_off, go_on, done, last, leaving, bind, run, none, more, TypedArms, no_arms, with_arm}
 use Rattle.type_check.specs.TypedExprView.{ty_of, stmt_of, stmts_of}
-use Rattle.type_check.specs.WellTyped.{Surroundings, within_loop, IsWellTyped, StatementsFit, ArgumentsFit, PartsFit}
+use Rattle.type_check.specs.WellTyped.{Surroundings, within_loop, IsWellTyped, StatementsFit, ArgumentsFit, PartsFit, ArmsFit, tys_bound}
 use Rattle.mir_build.specs.Lowering.{Around, whole}
-use Rattle.mir_build.specs.Reach.{reach, reach_of, reach_in}
+use Rattle.mir_build.specs.Reach.{reach, reach_of, reach_in, reach_in_arms}
 use Rattle.mir_build.proofs.Bindings.{stmts_at}
 use Rattle.mir_build.proofs.Statements.{around_behind}
 
 -- ---- what fits reaches no further than its scope
+
+as_many : (xs : List BoundName) → length (tys_bound xs) ≡ length xs
+as_many [] = refl
+as_many (x ∷ xs) = ap (λ n. suc n) (as_many xs)
 
 mutual
   pub within_scope : (σ : Surroundings) (Γ : List Ty) (e : TypedExpr) → IsWellTyped σ Γ e → reach e ≤ length Γ
@@ -32,7 +37,7 @@ mutual
   within_scope σ Γ (block ty s ss) w = statements_within σ Γ ty ss w
   within_scope σ Γ (branch ty s e a) w = omega (arith, within_scope σ Γ e w.3, within_scope σ Γ a w.4)
   within_scope σ Γ (choice ty s e a b) w = omega (arith, within_scope σ Γ e w.3, within_scope σ Γ a w.4, within_scope σ Γ b w.5)
-  within_scope σ Γ (matched ty s e as') w = omega arith
+  within_scope σ Γ (matched ty s e as') w = omega (arith, within_scope σ Γ e w.0, arms_within σ Γ (ty_of e) ty as' w.1)
   within_scope σ Γ (repeat ty s is e b) w = omega (arith, within_scope (within_loop false σ) Γ e w.4, within_scope (within_loop true σ) Γ b w.5)
   within_scope σ Γ (panics ty s k) w = omega arith
   within_scope σ Γ (returned ty s e) w = within_scope σ Γ e w.2
@@ -56,6 +61,10 @@ mutual
   parts_within : (σ : Surroundings) (Γ : List Ty) (es : TypedExprs) → PartsFit σ Γ es → reach_in es ≤ length Γ
   parts_within σ Γ none w = omega arith
   parts_within σ Γ (more e es) w = omega (arith, within_scope σ Γ e w.0, parts_within σ Γ es w.1)
+
+  arms_within : (σ : Surroundings) (Γ : List Ty) (u t : Ty) (as' : TypedArms) → ArmsFit σ Γ u t as' → reach_in_arms as' ≤ length Γ
+  arms_within σ Γ u t no_arms w = omega arith
+  arms_within σ Γ u t (with_arm p xs e as') w = omega (arith, within_scope σ (Γ ++ tys_bound xs) e w.2, length-append Γ (tys_bound xs), as_many xs, arms_within σ Γ u t as' w.3)
 
 -- ---- parts of lists
 

@@ -1,5 +1,5 @@
 -- A property of texts that each shape keeps holds of every text that is lowered.
-use Rattle.std.proofs.Common.{◌≡◌, sym, subst, ℕ, Bool, true, false, List, [], ◌∷◌, ◌++◌, drop, Some}
+use Rattle.std.proofs.Common.{◌≡◌, sym, subst, ℕ, Bool, true, false, List, [], ◌∷◌, ◌++◌, drop, Option, Some}
 use Rattle.logic_term.specs.declared.kinds.Label.{Label}
 use Rattle.logic_term.specs.Ty.{Ty}
 use Rattle.text_core.specs.declared.refusal.Cause.{Cause}
@@ -9,15 +9,17 @@ use Rattle.mir_ir.specs.declared.statement.Statement.{Statement}
 use Rattle.mir_ir.specs.declared.terminator.TerminatorKind.TheVariants.{Goto, Panic}
 use Rattle.source_kinds.specs.declared.kinds.LazyOp.{LazyOp}
 use Rattle.source_kinds.specs.declared.kinds.LazyOp.TheVariants as lazy_op
-use Rattle.type_check.specs.TypedExpr.{TypedExpr, TypedStmts, TypedExprs}
+use Rattle.pat_check.specs.Decision.{Decision}
+use Rattle.type_check.specs.TypedExpr.{TypedExpr, TypedStmts, TypedExprs, TypedArms}
 use Rattle.mir_build.specs.declared.around.Loop.{Loop}
 use Rattle.mir_build.specs.Text.{Line, Puts, Makes, Leaves}
-use Rattle.mir_build.specs.Lowering.{Around, Formula, binds, looping, innermost, ends, dies_in, test, fork, calls, turning, spinning, circling, returning, lazily, Into, of_integer, of_truth, of_variable, of_negative, of_denied, of_cast, of_binary, of_lazy, of_assign}
-use Rattle.mir_build.specs.Lowering.{of_update, of_call, of_make, of_part, of_block, of_branch, of_choice, of_leaving_choice, of_repeat, of_panics, of_returned, of_endless, of_until_break, of_break_off, of_go_on, Rest, of_done, of_last, of_leaving, of_bind, of_run, Args, of_none, of_more, PlaceOf, of_name, of_part_place, of_temporary, IntoBody, of_outermost, of_other}
+use Rattle.mir_build.specs.Lowering.{Around, Formula, binds, looping, innermost, ends, dies_in, test, fork, split, met, calls, turning, spinning, circling, returning, lazily, Into, of_integer, of_truth, of_variable, of_negative, of_denied, of_cast, of_binary, of_lazy, of_assign}
+use Rattle.mir_build.specs.Lowering.{of_update, of_call, of_make, of_part, of_block, of_branch, of_choice, of_leaving_choice, of_repeat, of_panics, of_returned, of_endless, of_until_break, of_break_off, of_go_on, Rest, of_done, of_last, of_leaving, of_bind, of_run, Args, of_none, of_more, PlaceOf, of_name, of_part_place, of_temporary, of_matched, Tests, at_arm, on_truth, on_literal, ArmInto, of_unbound, of_bound, of_later, IntoBody, of_outermost, of_other}
 use Rattle.mir_build.proofs.Jumps.{deaths, first_dies_last}
 
--- the property holds of what a shape makes where it holds of its parts
-pub record Keeps (P : Around → List Line → Type 0) : Type 0 where
+-- the property P holds of what a shape makes where it holds of its parts; Q is one of texts whose edge to the block of the label, if there is one, is still to
+-- come
+pub record Keeps (P : Around → List Line → Type 0) (Q : Around → Option Label → List Line → Type 0) : Type 0 where
   pub nothing : (c : Around) → P c []
   pub put : (c : Around) (s : Statement) (xs : List Line) → P c xs → P c (Puts s ∷ xs)
   pub make : (c : Around) (x : ℕ) (t : Ty) (xs : List Line) → P c xs → P c (Makes x t ∷ xs)
@@ -34,10 +36,13 @@ pub record Keeps (P : Around → List Line → Type 0) : Type 0 where
   -- edges of the innermost loop, to behind it and to its head
   pub broken : (c : Around) (s : Span) (l : Loop) → innermost c ≡ Some l → P c (Leaves (ends s (Goto l.after)) ∷ [])
   pub gone_on : (c : Around) (s : Span) (l : Loop) → innermost c ≡ Some l → P c (Leaves (ends s (Goto l.head)) ∷ [])
+  pub ended : (c : Around) (to : Option Label) (xs : List Line) → P c xs → Q c to xs
+  pub told : (c : Around) (s : Span) (u : ℕ) (U : Ty) (v : Statement) (yes' no' : Label) (to : Option Label) (xs ys : List Line) → Q c to xs → Q c to ys → Q c to (Makes u U ∷ Puts v ∷ split c s u yes' no' to xs ys)
+  pub meeting : (c : Around) (s : Span) (to : Option Label) (xs : List Line) → Q c to xs → P c (xs ++ met c s to)
   -- a text with one variable more in scope
   pub bound : (c : Around) (t : ℕ) (xs : List Line) → P (binds c t) xs → P c xs
 
-module _ (P : Around → List Line → Type 0) (keeps : Keeps P) where
+module _ (P : Around → List Line → Type 0) (Q : Around → Option Label → List Line → Type 0) (keeps : Keeps P Q) where
   one : (c : Around) (s : Statement) → P c (Puts s ∷ [])
   one c s = keeps.put c s [] (keeps.nothing c)
 
@@ -84,6 +89,7 @@ module _ (P : Around → List Line → Type 0) (keeps : Keeps P) where
         made_then c _ _ us _ (of_text c _ _ us p) (keeps.tested c s t yes' no' after vs ws (of_text c _ _ vs q) (of_text c _ _ ws r))
     of_text c e d xs (of_leaving_choice {s = s} {t = t} yes' no' {xs = us} {ys = vs} {zs = ws} n p q r) =
         made_then c _ _ us _ (of_text c _ _ us p) (keeps.forked c s t yes' no' vs ws (of_text c _ _ vs q) (of_text c _ _ ws r))
+    of_text c e d xs (of_matched {s = s} D to {xs = us} {ys = vs} q l p r) = keeps.join c us _ (of_place c _ _ us p) (keeps.meeting c s to vs (of_tests c s _ _ _ to D d vs r))
     of_text c e d xs (of_repeat {s = s} {t = t} {u = u} head body after fs {xs = us} {ys = vs} g p q) =
         keeps.turned c s head body after fs t _ us u _ vs _ (of_text (looping c head after) _ _ us p) (of_text (looping c head after) _ _ vs q) (one c _)
     of_text c e d xs (of_panics {s = s} {k = k}) = keeps.panicked c s k
@@ -97,6 +103,16 @@ module _ (P : Around → List Line → Type 0) (keeps : Keeps P) where
     of_place c e x xs (of_name x' q) = keeps.nothing c
     of_place c e x xs (of_part_place p) = of_place c _ _ xs p
     of_place c e x xs (of_temporary {xs = us} n p) = keeps.make c _ _ us (of_text c _ _ us p)
+
+    of_tests : (c : Around) (s : Span) (T : Ty) (x : Place) (as' : TypedArms) (to : Option Label) (D : Decision) (d : ℕ) (xs : List Line) → Tests c s T x as' to D d xs → Q c to xs
+    of_tests c s T x as' to D d xs (at_arm p) = keeps.ended c to xs (of_arm c s T x as' _ d xs p)
+    of_tests c s T x as' to D d xs (on_truth u yes' no' {xs = us} {ys = vs} h p q) = keeps.told c s u _ _ yes' no' to us vs (of_tests c s T x as' to _ d us p) (of_tests c s T x as' to _ d vs q)
+    of_tests c s T x as' to D d xs (on_literal u yes' no' k {xs = us} {ys = vs} h g p q) = keeps.told c s u _ _ yes' no' to us vs (of_tests c s T x as' to _ d us p) (of_tests c s T x as' to _ d vs q)
+
+    of_arm : (c : Around) (s : Span) (T : Ty) (x : Place) (as' : TypedArms) (n d : ℕ) (xs : List Line) → ArmInto c s T x as' n d xs → P c xs
+    of_arm c s T x as' n d xs (of_unbound p) = of_text c _ d xs p
+    of_arm c s T x as' n d xs (of_bound y {xs = us} h k p) = made_then c _ _ _ _ (one c _) (keeps.join c us _ (keeps.bound c y us (of_text (binds c y) _ d us p)) (of_dying false c s y))
+    of_arm c s T x as' n d xs (of_later p) = of_arm c s T x _ _ d xs p
 
     of_rest : (c : Around) (outer : Bool) (s : Span) (ss : TypedStmts) (d : ℕ) (xs : List Line) → Rest c outer s ss d xs → P c xs
     of_rest c outer s ss d xs of_done = one c _

@@ -1,19 +1,19 @@
 -- Which types are Copy is decided, and so is what takes a place.
-use Rattle.std.proofs.Common.{◌≡◌, refl, ap, sym, ◌∙◌, subst, true≢false, ℕ, zero, suc, ◌+◌, ◌<◌, ◌≤◌, ◌≢◌, ◌↔◌, ◌⊎◌, inl, inr, eqb, not, Bool, true, false, IsTrue, List, [], ◌∷◌, get_or, length, Option, Some, None, slice_get, slice_set, replicate, if◌then◌else◌, arith}
+use Rattle.std.proofs.Common.{◌≡◌, refl, ap, sym, ◌∙◌, subst, true≢false, ℕ, zero, suc, ◌+◌, ◌<◌, ◌≤◌, ◌≢◌, ◌↔◌, ◌⊎◌, inl, inr, eqb, not, Bool, true, false, IsTrue, List, get_or, length, Option, Some, None, replicate, if◌then◌else◌, arith}
 use Rattle.std.proofs.lemmas.Bool.Decides.{eqb_tells}
 use Rattle.std.proofs.lemmas.Option.{get_or_from_slice_get, slice_get_within}
 use Rattle.logic_term.specs.Ty.{Ty, int, bool, tuple, no_tys}
 use Rattle.logic_term.specs.declared.declaration.AdtDecl.{AdtDecl}
 use Rattle.logic_term.specs.declared.declaration.VariantDecl.{VariantDecl}
 use Rattle.mir_ir.specs.declared.place.Operand.{Operand}
-use Rattle.mir_ir.specs.declared.place.Operand.TheVariants.{Copy, Move}
+use Rattle.mir_ir.specs.declared.place.Operand.TheVariants.{Move}
 use Rattle.mir_ir.specs.declared.place.Place.{Place}
 use Rattle.rs_types.specs.declared.copy_rows.CopyRow.{CopyRow}
 use Rattle.rs_types.specs.Copied.{IsCopy, of_int, of_bool, of_tuple, none_copy}
 use Rattle.rs_types.specs.CopyRows.{all_but, no_row, unknown, variants_copy, new_at, AreNeeded, Decide}
 use Rattle.rs_types.specs.Growing.{variant_width}
 use Rattle.rs_types.specs.Weighing.{variants_in, variants_at}
-use Rattle.rs_types.proofs.CopyRows.{IsNew, new_there}
+use Rattle.rs_types.proofs.CopyRows.{new_there}
 use Rattle.rs_types.proofs.Copied.{AreRows, decided, first_rows, fewer_unknown, next_rows}
 use Rattle.type_check.specs.Plain.{IsScalar}
 use Rattle.mir_build.specs.Lowering.{Takes, by_copy, by_move}

@@ -1,11 +1,12 @@
 -- What the shapes keep holds of the text of each plain expression that is well typed.
-use Rattle.std.proofs.Common.{◌≡◌, inl, inr, refl, sym, ◌∙◌, subst, true≢false, ℕ, ℤ, Bool, true, false, List, [], ◌∷◌, ◌++◌, map, length, Some, slice_get}
+use Rattle.std.proofs.Common.{◌≡◌, inl, inr, refl, sym, ◌∙◌, subst, true≢false, ℕ, ℤ, Bool, true, false, List, [], ◌∷◌, ◌++◌, map, length, Option, Some, slice_get, append-nil}
 use Rattle.text_core.specs.declared.refusal.Cause.{Cause}
 use Rattle.text_core.specs.declared.span.Span.{Span}
 use Rattle.logic_term.specs.declared.kinds.Ctor.TheVariants.{Tuple}
 use Rattle.logic_term.specs.declared.kinds.Label.{Label}
 use Rattle.logic_term.specs.Ty.{Ty, int, bool}
 use Rattle.source_kinds.specs.declared.kinds.BinaryOp.{BinaryOp}
+use Rattle.source_kinds.specs.declared.kinds.BinaryOp.TheVariants.{Eq}
 use Rattle.source_kinds.specs.declared.kinds.IntKind.{IntKind}
 use Rattle.source_kinds.specs.declared.kinds.LazyOp.{LazyOp}
 use Rattle.source_kinds.specs.declared.kinds.LazyOp.TheVariants as lazy_op
@@ -17,19 +18,20 @@ use Rattle.mir_ir.specs.declared.statement.Rvalue.{Rvalue}
 use Rattle.mir_ir.specs.declared.statement.Rvalue.TheVariants.{Use, Binary, Neg, Not, Widen, Make}
 use Rattle.mir_ir.specs.declared.terminator.TerminatorKind.TheVariants.{Goto, Panic}
 use Rattle.type_check.specs.declared.program.Signature.{Signature}
-use Rattle.type_check.specs.TypedExpr.{TypedExpr, TypedStmts, TypedExprs}
-use Rattle.type_check.specs.Leaves.{leaves, leaves_at_end}
+use Rattle.pat_check.specs.Decision.{Decision}
+use Rattle.type_check.specs.TypedExpr.{TypedExpr, TypedStmts, TypedExprs, TypedArms}
+use Rattle.type_check.specs.Leaves.{leaves, leaves_at_end, all_arms_leave}
 use Rattle.type_check.specs.TypedExprView.{ty_of}
 use Rattle.type_check.specs.Plain.{IsScalar}
 use Rattle.type_check.specs.WellTyped.{unit, operation_ty, is_signed, Surroundings, within_loop, EachSpeaks}
 use Rattle.mir_build.specs.declared.around.Loop.{Loop}
 use Rattle.mir_build.specs.Text.{Line, Leaves}
-use Rattle.mir_build.specs.Lowering.{Around, Formula, accepted, whole, binds, looping, innermost, puts, puts_at, put_unit, moved, ends, made_by, dies_in, die_from, test, fork, calls, turning, spinning, circling, returning, lazily}
+use Rattle.mir_build.specs.Lowering.{Around, Formula, accepted, whole, binds, looping, innermost, puts, puts_at, put_unit, moved, ends, made_by, dies_in, die_from, test, fork, split, met, calls, turning, spinning, circling, returning, lazily}
 use Rattle.mir_build.specs.Lowering.{by_copy, by_move, Into, of_integer, of_truth, of_variable, of_negative, of_denied, of_cast, of_binary, of_lazy, of_assign, of_update, of_call, of_make, of_part, of_block, of_branch, of_choice, of_leaving_choice, of_repeat, of_panics, of_returned, of_endless, of_until_break, of_break_off, of_go_on}
-use Rattle.mir_build.specs.Lowering.{Rest, of_done, of_last, of_leaving, of_bind, of_run, Args, of_none, of_more, PlaceOf, of_name, of_part_place, of_temporary, IntoBody, of_outermost, of_other}
-use Rattle.mir_build.proofs.Leaving.{panics_scalar, leaving_value, leaving_leaves, leaving_scalar, Serves, itself, at_type, serves_scalar, last_serves, side_serves, sides_serve}
+use Rattle.mir_build.specs.Lowering.{Rest, of_done, of_last, of_leaving, of_bind, of_run, Args, of_none, of_more, PlaceOf, of_name, of_part_place, of_temporary, of_matched, Tests, at_arm, on_truth, on_literal, ArmInto, of_unbound, of_bound, of_later, IntoBody, of_outermost, of_other}
+use Rattle.mir_build.proofs.Leaving.{panics_scalar, leaving_value, leaving_leaves, leaving_scalar, Serves, itself, at_type, serves_scalar, last_serves, side_serves, sides_serve, arm_serves, later_serve}
 use Rattle.mir_build.proofs.Taking.{scalar_copy}
-use Rattle.mir_build.proofs.PlainTyping.{IsPlainlyTyped, StatementsFitPlainly, ArgumentsFitPlainly}
+use Rattle.mir_build.proofs.PlainTyping.{IsPlainlyTyped, StatementsFitPlainly, ArgumentsFitPlainly, ArmsFitPlainly}
 
 -- the temporaries that a value takes, the last one first, with their types, and its own type
 pub data Takes (c : Around) (Γ : List Ty) : List (ℕ × Ty) → Rvalue → Ty → Type 0 where
@@ -42,10 +44,16 @@ pub data Takes (c : Around) (Γ : List Ty) : List (ℕ × Ty) → Rvalue → Ty 
   of_widening : {t : ℕ} {T U : Ty} (j : IntKind) (k : IntKind) → widens j k ≡ true → U ≡ int k → T ≡ int j → Takes c Γ ((t, T) ∷ []) (Widen (moved t) k) U
   of_operation : {t u : ℕ} {op : BinaryOp} {T U V : Ty} → operation_ty op T ≡ Some V → U ≡ T → Takes c Γ ((u, U) ∷ (t, T) ∷ []) (Binary op (moved t) (moved u)) V
 
+-- what a test asks of what is at the place, of the type
+pub data Asked (T : Ty) (p : Place) : Rvalue → Type 0 where
+  truth_asked : T ≡ bool → Asked T p (Use (Copy p))
+  number_asked : {z : ℤ} (k : IntKind) → T ≡ int k → fits k z ≡ true → Asked T p (Binary Eq (Copy p) (Const (lit.Int z k)))
+
 -- `Writes c Γ ts d T xs` is to say of a text that, where the temporaries hold values, it writes a value of the type to local d; `Names c Γ p T xs`
--- that the place has the type behind the text; `Passes c Γ ts Ts xs` that the text writes arguments of the types to the temporaries
+-- that the place has the type behind the text; `Passes c Γ ts Ts xs` that the text writes arguments of the types to the temporaries;
+-- `Asks c Γ p T to d U xs` that, where the place holds a value of type T, the text writes one of type U to local d, and its edge to the label is still to come
 pub record KeepsTyped (σ : Surroundings) (Writes : Around → List Ty → List (ℕ × Ty) → ℕ → Ty → List Line → Type 0) (Names : Around → List Ty → Place → Ty → List Line → Type 0)
-    (Passes : Around → List Ty → List ℕ → List Ty → List Line → Type 0) : Type 0 where
+    (Passes : Around → List Ty → List ℕ → List Ty → List Line → Type 0) (Asks : Around → List Ty → Place → Ty → Option Label → ℕ → Ty → List Line → Type 0) : Type 0 where
   pub put : (c : Around) (Γ : List Ty) (ts : List (ℕ × Ty)) (s : Span) (d : ℕ) (r : Rvalue) (T : Ty) → Takes c Γ ts r T → Writes c Γ ts d T (puts s d r ∷ [])
   -- one temporary more
   pub made : (c : Around) (Γ : List Ty) (ts : List (ℕ × Ty)) (t : ℕ) (T : Ty) (xs : List Line) (d : ℕ) (U : Ty) (ys : List Line) → Writes c Γ [] t T xs → Writes c Γ ((t, T) ∷ ts) d U ys → Writes c Γ ts d U (made_by t T xs ++ ys)
@@ -69,6 +77,12 @@ pub record KeepsTyped (σ : Surroundings) (Writes : Around → List Ty → List 
       → Writes c Γ ((t, T) ∷ []) d U (test c s t yes' no' after xs ys)
   pub forked : (c : Around) (Γ : List Ty) (s : Span) (t : ℕ) (T : Ty) (yes' no' : Label) (d : ℕ) (U : Ty) (xs ys : List Line) → T ≡ bool → Writes c Γ [] d U xs → Writes c Γ [] d U ys
       → Writes c Γ ((t, T) ∷ []) d U (fork c s t yes' no' xs ys)
+  pub armed : (c : Around) (Γ : List Ty) (p : Place) (T : Ty) (to : Option Label) (d : ℕ) (U : Ty) (xs : List Line) → Writes c Γ [] d U xs → Asks c Γ p T to d U xs
+  -- what is at the place is bound
+  pub named_there : (c : Around) (Γ : List Ty) (s : Span) (p : Place) (T : Ty) (to : Option Label) (x d : ℕ) (U : Ty) (xs : List Line) → Writes c Γ ((x, T) ∷ []) d U xs → Asks c Γ p T to d U (made_by x T (puts s x (Use (Copy p)) ∷ []) ++ xs)
+  pub asked : (c : Around) (Γ : List Ty) (s : Span) (p : Place) (T : Ty) (to : Option Label) (u : ℕ) (r : Rvalue) (yes' no' : Label) (d : ℕ) (U : Ty) (xs ys : List Line) → Asked T p r → Asks c Γ p T to d U xs → Asks c Γ p T to d U ys
+      → Asks c Γ p T to d U (made_by u bool (puts s u r ∷ []) ++ split c s u yes' no' to xs ys)
+  pub matched : (c : Around) (Γ : List Ty) (s : Span) (p : Place) (T : Ty) (to : Option Label) (d : ℕ) (U : Ty) (xs ys : List Line) → IsScalar T → Names c Γ p T xs → Asks c Γ p T to d U ys → Writes c Γ [] d U (xs ++ (ys ++ met c s to))
   pub turned : (c : Around) (Γ : List Ty) (s : Span) (head body after : Label) (fs : List Formula) (t : ℕ) (T : Ty) (xs : List Line) (u : ℕ) (U : Ty) (ys : List Line) (d : ℕ) (V : Ty) → T ≡ bool → V ≡ unit → EachSpeaks (length Γ) (map accepted fs)
       → Writes (looping c head after) Γ [] t T xs → Writes (looping c head after) Γ [] u U ys → Writes c Γ [] d V (turning c s head body after fs t T xs u U ys (put_unit s d ∷ []))
   pub named : (c : Around) (Γ : List Ty) (v : ℕ) (p : Place) (T : Ty) → slice_get c.scope v ≡ Some p → slice_get Γ v ≡ Some T → Names c Γ p T []
@@ -86,7 +100,7 @@ cast_kind : (j k : IntKind) → int j ≡ int k → j ≡ k
 cast_kind j k q = cc
 
 module _ (σ : Surroundings) (Writes : Around → List Ty → List (ℕ × Ty) → ℕ → Ty → List Line → Type 0) (Names : Around → List Ty → Place → Ty → List Line → Type 0) (Passes : Around → List Ty → List ℕ → List Ty → List Line → Type 0)
-    (keeps : KeepsTyped σ Writes Names Passes) where
+    (Asks : Around → List Ty → Place → Ty → Option Label → ℕ → Ty → List Line → Type 0) (keeps : KeepsTyped σ Writes Names Passes Asks) where
   -- what has a value
   valued : (c : Around) (Γ : List Ty) (b : Bool) (d : ℕ) (T : Ty) (d' : ℕ) (U : Ty) (xs : List Line) → b ≡ false → Serves b d T d' U → Writes c Γ [] d T xs → Writes c Γ [] d' U xs
   valued c Γ b d T d' U xs n (inl w) p = subst (λ x. Writes c Γ [] x U xs) w.0 (subst (λ V. Writes c Γ [] d V xs) w.1 p)
@@ -135,6 +149,8 @@ module _ (σ : Surroundings) (Writes : Around → List Ty → List (ℕ × Ty) �
     of_typed i c e d xs (of_leaving_choice {s = s} {a = a} {b = b} {t = t} yes' no' {xs = us} {ys = vs} {zs = ws} n p q r) Γ h d' U w =
         let g = sides_serve a b d _ d' U n h.1 h.2 w in
         keeps.made c Γ [] t _ us d' U _ (of_typed i c _ t us p Γ h.3 t _ itself) (keeps.forked c Γ s t _ yes' no' d' U vs ws h.0 (of_typed i c _ d vs q Γ h.4 d' U g.0) (of_typed i c _ d ws r Γ h.5 d' U g.1))
+    of_typed i c e d xs (of_matched {s = s} {p = x} D to {xs = us} {ys = vs} q l p r) Γ h d' U w =
+        keeps.matched c Γ s x _ to d' U us vs h.0 (of_place i c _ x us p Γ h.1) (of_tests i c s _ x _ to D d vs r Γ _ h.0 h.2 d' U w)
     of_typed i c e d xs (of_repeat {s = s} {t = t} {u = u} head body after fs {xs = us} {ys = vs} g p q) Γ h d' U w =
         valued c Γ _ d _ d' U _ refl w
         (keeps.turned c Γ s head body after fs t _ us u _ vs d _ h.2 h.0 (subst (EachSpeaks (length Γ)) g h.1) (of_typed false (looping c head after) _ t us p Γ h.4 t _ itself) (of_typed true (looping c head after) _ u vs q Γ h.5 u _ itself))
@@ -146,6 +162,24 @@ module _ (σ : Surroundings) (Writes : Around → List Ty → List (ℕ × Ty) �
         valued c Γ _ d _ d' U _ refl w (keeps.spun c Γ s head after fs u _ vs d _ h.0 (subst (EachSpeaks (length Γ)) g h.2) (of_typed true (looping c head after) b u vs p Γ h.4 u _ itself))
     of_typed i c e d xs (of_break_off {ty = T} {s = s} l q) Γ h d' U w = keeps.broken c Γ s l d' U (serves_scalar _ d T d' U h.0 w) q
     of_typed i c e d xs (of_go_on {ty = T} {s = s} l q) Γ h d' U w = keeps.gone_on c Γ s l d' U (serves_scalar _ d T d' U h.0 w) q
+
+    of_tests : (i : Bool) (c : Around) (s : Span) (T : Ty) (x : Place) (as' : TypedArms) (to : Option Label) (D : Decision) (d : ℕ) (xs : List Line) → Tests c s T x as' to D d xs
+        → (Γ : List Ty) (S : Ty) → IsScalar T → ArmsFitPlainly (within_loop i σ) Γ S as' → (d' : ℕ) (U : Ty) → Serves (all_arms_leave as') d S d' U → Asks c Γ x T to d' U xs
+    of_tests i c s T x as' to D d xs (at_arm p) Γ S g h d' U w = of_arm i c s T x as' to _ d xs p Γ S g h d' U w
+    of_tests i c s T x as' to D d xs (on_truth u yes' no' {xs = us} {ys = vs} e p q) Γ S g h d' U w =
+        keeps.asked c Γ s x T to u _ yes' no' d' U us vs (truth_asked e) (of_tests i c s T x as' to _ d us p Γ S g h d' U w) (of_tests i c s T x as' to _ d vs q Γ S g h d' U w)
+    of_tests i c s T x as' to D d xs (on_literal u yes' no' k {xs = us} {ys = vs} e f p q) Γ S g h d' U w =
+        keeps.asked c Γ s x T to u _ yes' no' d' U us vs (number_asked k e f) (of_tests i c s T x as' to _ d us p Γ S g h d' U w) (of_tests i c s T x as' to _ d vs q Γ S g h d' U w)
+
+    of_arm : (i : Bool) (c : Around) (s : Span) (T : Ty) (x : Place) (as' : TypedArms) (to : Option Label) (n d : ℕ) (xs : List Line) → ArmInto c s T x as' n d xs
+        → (Γ : List Ty) (S : Ty) → IsScalar T → ArmsFitPlainly (within_loop i σ) Γ S as' → (d' : ℕ) (U : Ty) → Serves (all_arms_leave as') d S d' U → Asks c Γ x T to d' U xs
+    of_arm i c s T x as' to n d xs (of_unbound {e = a} {as' = bs} p) Γ S g h d' U w =
+        keeps.armed c Γ x T to d' U xs (of_typed i c a d xs p Γ (subst (λ Δ. IsPlainlyTyped (within_loop i σ) Δ a) (append-nil Γ) h.1) d' U (arm_serves a (all_arms_leave bs) d S d' U h.0 w))
+    of_arm i c s T x as' to n d xs (of_bound {e = a} {as' = bs} y {xs = us} e (by_copy k) p) Γ S g h d' U w =
+        keeps.named_there c Γ s x T to y d' U _
+        (keeps.bound false c Γ s y T d' U us (of_typed i (binds c y) a d us p (Γ ++ T ∷ []) (subst (λ V. IsPlainlyTyped (within_loop i σ) (Γ ++ V ∷ []) a) e h.1) d' U (arm_serves a (all_arms_leave bs) d S d' U h.0 w)))
+    of_arm i c s T x as' to n d xs (of_bound y e (by_move k) p) Γ S g h d' U w = absurd (k (scalar_copy c.types T g))
+    of_arm i c s T x as' to n d xs (of_later {e = a} {as' = bs} p) Γ S g h d' U w = of_arm i c s T x bs to _ d xs p Γ S g h.2 d' U (later_serve a (all_arms_leave bs) d S d' U w)
 
     of_rest : (i : Bool) (c : Around) (outer : Bool) (s : Span) (ss : TypedStmts) (d : ℕ) (xs : List Line) → Rest c outer s ss d xs → (Γ : List Ty) (T : Ty) → StatementsFitPlainly (within_loop i σ) Γ T ss → (d' : ℕ) (U : Ty) → Serves (leaves_at_end ss) d T d' U
         → Writes c Γ [] d' U xs

@@ -1,7 +1,7 @@
 -- Lowering: a row for each form of expression, with any labels and temporaries, which a body has in the order of its rows: 0, 1 and so
 -- on. The order of evaluation is that of the Rust Reference: operands from the left, the right side of an assignment before its place,
 -- `&&` and `||` lazily.
-use Rattle.std.specs.Prelude.{◌≡◌, ℕ, suc, ℤ, ◌+◌, ◌^◌, ◌<◌, ◌≤◌, ◌&&◌, Bool, true, false, ◌-◌, List, [], ◌∷◌, ◌++◌, length, map, drop, reverse, Option, Some, None, slice_get}
+use Rattle.std.specs.Prelude.{◌≡◌, ℕ, suc, ℤ, ◌+◌, ◌^◌, ◌<◌, ◌≤◌, ◌&&◌, Bool, true, false, ◌-◌, List, [], ◌∷◌, ◌++◌, length, map, drop, reverse, Option, Some, None, is_none, slice_get}
 use Rattle.std.specs.Option.{option_map}
 use Rattle.std.specs.List.{range_with_len}
 use Rattle.text_core.specs.declared.name.Name.{Name}
@@ -9,6 +9,7 @@ use Rattle.text_core.specs.declared.refusal.Cause.{Cause}
 use Rattle.text_core.specs.declared.span.Span.{Span}
 use Rattle.text_core.specs.Names.{text_of}
 use Rattle.source_kinds.specs.declared.kinds.BinaryOp.{BinaryOp}
+use Rattle.source_kinds.specs.declared.kinds.BinaryOp.TheVariants.{Eq}
 use Rattle.logic_term.specs.declared.declaration.AdtDecl.{AdtDecl}
 use Rattle.logic_term.specs.declared.kinds.Ctor.{Ctor}
 use Rattle.logic_term.specs.declared.kinds.Ctor.TheVariants.{Tuple}
@@ -18,12 +19,18 @@ use Rattle.logic_term.specs.declared.obligation.Contract.{Contract}
 use Rattle.logic_term.specs.declared.subst.Replacement.{Replacement}
 use Rattle.logic_term.specs.Subst.{with_terms}
 use Rattle.logic_term.specs.Term.{Term, var}
-use Rattle.logic_term.specs.Ty.{Ty, int}
+use Rattle.logic_term.specs.declared.pattern.Binding.{Binding}
+use Rattle.logic_term.specs.Pattern.{Pat}
+use Rattle.logic_term.specs.Ty.{Ty, int, bool}
 use Rattle.source_kinds.specs.declared.kinds.LazyOp.{LazyOp}
 use Rattle.source_kinds.specs.declared.kinds.LazyOp.TheVariants as lazy_op
 use Rattle.type_check.specs.declared.program.ClauseKind.{ClauseKind}
 use Rattle.type_check.specs.declared.program.ClauseKind.TheVariants.{Requires, Ensures}
 use Rattle.rs_types.specs.Copied.{IsCopy}
+use Rattle.pat_check.specs.Decision.{Decision, leaf, if_truth, if_literal}
+use Rattle.pat_check.specs.Flat.{flat_tree}
+use Rattle.pat_types.specs.declared.names.BoundName.{BoundName}
+use Rattle.source_kinds.specs.Range.{fits}
 use Rattle.mir_ir.specs.declared.place.Lit.{Lit}
 use Rattle.mir_ir.specs.declared.place.Lit.TheVariants as lit
 use Rattle.mir_ir.specs.declared.place.Operand.{Operand}
@@ -53,10 +60,10 @@ use Rattle.type_check.specs.declared.program.TypedFunction.{TypedFunction}
 use Rattle.type_check.specs.declared.program.TypedProgram.{TypedProgram}
 use Rattle.mir_build.specs.declared.around.Loop.{Loop}
 use Rattle.mir_build.specs.declared.lowered.Lowered.{Lowered}
-use Rattle.type_check.specs.TypedExpr.{TypedExpr, TypedStmts, TypedExprs, integer, variable, negative, denied, cast, binary, lazy, assign, update, call, make, part, block, branch, choice, repeat, panics, returned, endless, until_break, break_off, go_on, done, last, leaving, bind, run, none, more}
-use Rattle.type_check.specs.Leaves.{leaves}
+use Rattle.type_check.specs.TypedExpr.{TypedExpr, TypedStmts, TypedExprs, integer, variable, negative, denied, cast, binary, lazy, assign, update, call, make, part, block, branch, choice, matched, repeat, panics, returned, endless, until_break, break_off, go_on, done, last, leaving, bind, run, none, more, TypedArms, with_arm}
+use Rattle.type_check.specs.Leaves.{leaves, all_arms_leave}
 use Rattle.type_check.specs.TypedExpr as typed
-use Rattle.type_check.specs.TypedExprView.{ty_of, span_of}
+use Rattle.type_check.specs.TypedExprView.{ty_of, span_of, patterns_of}
 use Rattle.type_check.specs.VariableNames.{variable_name, answer_name}
 use Rattle.type_check.specs.WellTyped.{signatures}
 use Rattle.mir_build.specs.Text.{Title, Line, Puts, Makes, Turns, Leaves, Owns, fresh, closed, begun, made, owned}
@@ -188,9 +195,23 @@ goes c s to next = Turns (ends s (Goto to)) (at c next)
 abbrev pub test : Around → Span → ℕ → (yes no after : Label) → List Line → List Line → List Line
 test c s t yes' no' after xs ys = Turns (ends s (If (moved t) yes' no')) (at c yes') ∷ (xs ++ goes c s after no' ∷ (ys ++ goes c s after after ∷ []))
 
--- the same where both texts leave: no block stands behind them. The edge at the end of the first is in no block
+-- where the edge at the end of all texts but the last leads: to the block behind them, or, where all of them leave, to the next block: it is in no block
+abbrev pub edge_to : Option Label → (next : Label) → Label
+edge_to (Some after) next = after
+edge_to None next = next
+
+-- the value of a local, which is moved, says which of two texts is run; the edge at the end of the second is still to come
+abbrev pub split : Around → Span → ℕ → (yes no : Label) → Option Label → List Line → List Line → List Line
+split c s t yes' no' to xs ys = Turns (ends s (If (moved t) yes' no')) (at c yes') ∷ (xs ++ goes c s (edge_to to no') no' ∷ ys)
+
+-- both texts leave: no block stands behind them
 abbrev pub fork : Around → Span → ℕ → (yes no : Label) → List Line → List Line → List Line
-fork c s t yes' no' xs ys = Turns (ends s (If (moved t) yes' no')) (at c yes') ∷ (xs ++ goes c s no' no' ∷ ys)
+fork c s t yes' no' xs ys = split c s t yes' no' None xs ys
+
+-- the last edge to the block behind texts, if there is one, and this block
+abbrev pub met : Around → Span → Option Label → List Line
+met c s None = []
+met c s (Some after) = goes c s after after ∷ []
 
 -- a function is called with what is in the temporaries, which are moved; its answer goes to d
 abbrev pub calls : Around → Span → (f d : ℕ) → List ℕ → Label → Line
@@ -262,6 +283,9 @@ mutual
         → Into c (choice ty s e a b) d (made_by t (ty_of e) xs ++ test c s t yes' no' after ys zs)
     of_leaving_choice : {c : Around} {ty : Ty} {s : Span} {e a b : TypedExpr} {d t : ℕ} (yes' no' : Label) {xs ys zs : List Line} → leaves a && leaves b ≡ true → Into c e t xs → Into c a d ys → Into c b d zs
         → Into c (choice ty s e a b) d (made_by t (ty_of e) xs ++ fork c s t yes' no' ys zs)
+    -- the arms are tried by the tree of their patterns, and meet behind it
+    of_matched : {c : Around} {ty : Ty} {s : Span} {e : TypedExpr} {as' : TypedArms} {d : ℕ} {p : Place} (D : Decision) (to : Option Label) {xs ys : List Line} → flat_tree (ty_of e) (patterns_of as') ≡ Some D → all_arms_leave as' ≡ is_none to
+        → PlaceOf c e p xs → Tests c s (ty_of e) p as' to D d ys → Into c (matched ty s e as') d (xs ++ (ys ++ met c s to))
     of_repeat : {c : Around} {ty : Ty} {s : Span} {is : List Assertion} {e b : TypedExpr} {d t u : ℕ} (head body after : Label) (fs : List Formula) {xs ys : List Line}
         → is ≡ map accepted fs → Into (looping c head after) e t xs → Into (looping c head after) b u ys
         → Into c (repeat ty s is e b) d (turning c s head body after fs t (ty_of e) xs u (ty_of b) ys (put_unit s d ∷ []))
@@ -281,6 +305,23 @@ mutual
     of_name : {c : Around} {ty : Ty} {s : Span} {v : ℕ} (p : Place) → slice_get c.scope v ≡ Some p → PlaceOf c (variable ty s v) p []
     of_part_place : {c : Around} {ty : Ty} {s : Span} {e : TypedExpr} {n : ℕ} {p : Place} {xs : List Line} → PlaceOf c e p xs → PlaceOf c (part ty s e n) (part_place p n) xs
     of_temporary : {c : Around} {e : TypedExpr} {t : ℕ} {xs : List Line} → is_place e ≡ false → Into c e t xs → PlaceOf c e (whole t) (made_by t (ty_of e) xs)
+
+  -- the text that tests by the tree what is at the place, of the type, and writes the value of the arm that is taken. A test is evaluated to a temporary, as a
+  -- condition is. An arm's body stands once, since each arm of flat patterns is at one leaf at most
+  pub data Tests : Around → Span → Ty → Place → TypedArms → Option Label → Decision → ℕ → List Line → Type 0 where
+    at_arm : {c : Around} {s : Span} {T : Ty} {p : Place} {as' : TypedArms} {to : Option Label} {n : ℕ} {bs : List Binding} {d : ℕ} {xs : List Line} → ArmInto c s T p as' n d xs → Tests c s T p as' to (leaf n bs) d xs
+    on_truth : {c : Around} {s : Span} {T : Ty} {p : Place} {as' : TypedArms} {to : Option Label} {D E : Decision} {d : ℕ} (u : ℕ) (yes' no' : Label) {xs ys : List Line} → T ≡ bool → Tests c s T p as' to D d xs → Tests c s T p as' to E d ys
+        → Tests c s T p as' to (if_truth [] D E) d (made_by u bool (puts s u (Use (Copy p)) ∷ []) ++ split c s u yes' no' to xs ys)
+    on_literal : {c : Around} {s : Span} {T : Ty} {p : Place} {as' : TypedArms} {to : Option Label} {z : ℤ} {D E : Decision} {d : ℕ} (u : ℕ) (yes' no' : Label) (k : IntKind) {xs ys : List Line} → T ≡ int k → fits k z ≡ true
+        → Tests c s T p as' to D d xs → Tests c s T p as' to E d ys
+        → Tests c s T p as' to (if_literal [] z D E) d (made_by u bool (puts s u (Binary Eq (Copy p) (Const (lit.Int z k))) ∷ []) ++ split c s u yes' no' to xs ys)
+
+  -- the text of an arm, by its number, where the value is at the place, of the type: a name that its pattern binds by value is a local of its own
+  pub data ArmInto : Around → Span → Ty → Place → TypedArms → ℕ → ℕ → List Line → Type 0 where
+    of_unbound : {c : Around} {s : Span} {T : Ty} {p : Place} {q : Pat} {e : TypedExpr} {as' : TypedArms} {d : ℕ} {xs : List Line} → Into c e d xs → ArmInto c s T p (with_arm q [] e as') 0 d xs
+    of_bound : {c : Around} {s : Span} {T : Ty} {p : Place} {q : Pat} {y : BoundName} {e : TypedExpr} {as' : TypedArms} {d : ℕ} {o : Operand} (x : ℕ) {xs : List Line} → y.ty ≡ T → Takes c.types T p o → Into (binds c x) e d xs
+        → ArmInto c s T p (with_arm q (y ∷ []) e as') 0 d (made_by x T (puts s x (Use o) ∷ []) ++ (xs ++ dies_in false s x))
+    of_later : {c : Around} {s : Span} {T : Ty} {p : Place} {q : Pat} {ys : List BoundName} {e : TypedExpr} {as' : TypedArms} {n d : ℕ} {xs : List Line} → ArmInto c s T p as' n d xs → ArmInto c s T p (with_arm q ys e as') (suc n) d xs
 
   -- the text of a block's statements and of its last expression; whether it is the outermost block of a body
   pub data Rest : Around → Bool → Span → TypedStmts → ℕ → List Line → Type 0 where
@@ -308,8 +349,12 @@ pub data IntoBody : Around → TypedExpr → List Line → Type 0 where
 
 -- ---- the order of labels
 
+abbrev pub labels_at : Option Label → List ℕ
+labels_at None = []
+labels_at (Some l) = l.0 ∷ []
+
 -- the labels that the rows name, in the order of the rows: those of the operand that is evaluated first, those of the row itself, and
--- those of its other parts; a loop's own labels come first
+-- those of its other parts; a loop's own labels come first, and of a match that of the block behind it
 abbrev mutual
   pub named : {c : Around} {e : TypedExpr} {d : ℕ} {xs : List Line} → Into c e d xs → List ℕ
   named of_integer = []
@@ -329,6 +374,7 @@ abbrev mutual
   named (of_branch yes' no' after p q) = named p ++ yes'.0 ∷ no'.0 ∷ after.0 ∷ named q
   named (of_choice yes' no' after n p q r) = named p ++ yes'.0 ∷ no'.0 ∷ after.0 ∷ (named q ++ named r)
   named (of_leaving_choice yes' no' n p q r) = named p ++ yes'.0 ∷ no'.0 ∷ (named q ++ named r)
+  named (of_matched D to q l p r) = named_place p ++ (labels_at to ++ named_tests r)
   named (of_repeat head body after fs g p q) = head.0 ∷ body.0 ∷ after.0 ∷ (named p ++ named q)
   named of_panics = []
   named (of_returned p) = named p
@@ -341,6 +387,16 @@ abbrev mutual
   named_place (of_name x q) = []
   named_place (of_part_place p) = named_place p
   named_place (of_temporary n p) = named p
+
+  pub named_tests : {c : Around} {s : Span} {T : Ty} {p : Place} {as' : TypedArms} {to : Option Label} {D : Decision} {d : ℕ} {xs : List Line} → Tests c s T p as' to D d xs → List ℕ
+  named_tests (at_arm p) = named_arm p
+  named_tests (on_truth u yes' no' h p q) = yes'.0 ∷ no'.0 ∷ (named_tests p ++ named_tests q)
+  named_tests (on_literal u yes' no' k h g p q) = yes'.0 ∷ no'.0 ∷ (named_tests p ++ named_tests q)
+
+  pub named_arm : {c : Around} {s : Span} {T : Ty} {p : Place} {as' : TypedArms} {n d : ℕ} {xs : List Line} → ArmInto c s T p as' n d xs → List ℕ
+  named_arm (of_unbound p) = named p
+  named_arm (of_bound x h k p) = named p
+  named_arm (of_later p) = named_arm p
 
   pub named_rest : {c : Around} {outer : Bool} {s : Span} {ss : TypedStmts} {d : ℕ} {xs : List Line} → Rest c outer s ss d xs → List ℕ
   named_rest of_done = []

@@ -1,29 +1,34 @@
 -- The text of the rows with the numbers that the code gives: labels from l on, locals from t on. Contracts of the code alone speak of it,
 -- where each variable is in scope.
-use Rattle.std.specs.Prelude.{ℕ, ◌+◌, ◌-◌, ◌&&◌, Bool, true, false, List, [], ◌∷◌, ◌++◌, map, length, get_or}
+use Rattle.std.specs.Prelude.{ℕ, zero, suc, ℤ, ◌+◌, ◌-◌, ◌&&◌, Bool, true, false, List, [], ◌∷◌, ◌++◌, map, length, get_or, Option, Some, None}
 use Rattle.std.specs.List.{range_with_len}
 use Rattle.text_core.specs.declared.span.Span.{Span}
 use Rattle.logic_term.specs.declared.kinds.Label.{Label}
 use Rattle.logic_term.specs.Term as term
-use Rattle.logic_term.specs.Ty.{Ty, int}
+use Rattle.logic_term.specs.Ty.{Ty, int, bool}
+use Rattle.source_kinds.specs.declared.kinds.BinaryOp.TheVariants.{Eq}
 use Rattle.source_kinds.specs.declared.kinds.IntKind.{IntKind}
 use Rattle.source_kinds.specs.declared.kinds.IntKind.TheVariants.{I32}
 use Rattle.mir_ir.specs.declared.place.Lit.TheVariants as lit
-use Rattle.mir_ir.specs.declared.place.Operand.TheVariants.{Copy}
+use Rattle.mir_ir.specs.declared.place.Operand.TheVariants.{Copy, Const}
 use Rattle.mir_ir.specs.declared.place.Place.{Place}
+use Rattle.mir_ir.specs.declared.statement.Rvalue.{Rvalue}
 use Rattle.mir_ir.specs.declared.statement.Rvalue.TheVariants.{Use, Binary, Neg, Not, Widen, Make}
 use Rattle.mir_ir.specs.declared.terminator.FnId.TheVariants as fn_id
 use Rattle.mir_ir.specs.declared.terminator.Callee.TheVariants.{Function}
 use Rattle.mir_ir.specs.declared.terminator.TerminatorKind.TheVariants.{Goto, If, Call, Return, Panic}
 use Rattle.type_check.specs.declared.assertion.Assertion.{Assertion}
 use Rattle.type_check.specs.declared.assertion.Assertion.TheVariants.{Good, Bad}
-use Rattle.type_check.specs.TypedExpr.{TypedExpr, TypedStmts, TypedExprs, integer, truth, variable, negative, denied, cast, binary, lazy, assign, update, call, make, part, block, branch, choice, matched, repeat, panics, returned, endless, until_break, break_off, go_on, done, last, leaving, bind, run, none, more}
-use Rattle.type_check.specs.Leaves.{leaves}
-use Rattle.type_check.specs.TypedExprView.{ty_of}
+use Rattle.type_check.specs.TypedExpr.{TypedExpr, TypedStmts, TypedExprs, integer, truth, variable, negative, denied, cast, binary, lazy, assign, update, call, make, part, block, branch, choice, matched, repeat, panics, returned, endless, until_break, break_off, go_on, done, last, leaving, bind, run, none, more, TypedArms, no_arms, with_arm}
+use Rattle.type_check.specs.Leaves.{leaves, all_arms_leave}
+use Rattle.type_check.specs.TypedExprView.{ty_of, patterns_of}
+use Rattle.pat_check.specs.Decision.{Decision, leaf, switch, if_truth, if_literal}
+use Rattle.pat_check.specs.Flat.{flat_tree}
+use Rattle.pat_types.specs.declared.names.BoundName.{BoundName}
 use Rattle.mir_build.specs.declared.around.Loop.{Loop}
 use Rattle.mir_build.specs.Taking.{is_copied, taken}
 use Rattle.mir_build.specs.Text.{Line, Makes, Turns, Leaves, Owns}
-use Rattle.mir_build.specs.Lowering.{Around, Formula, binds, looping, at, at_head, head_of, whole, part_place, puts, puts_at, constant, put_unit, moved, ends, dies_in, die_from, lazily, test, fork, is_place}
+use Rattle.mir_build.specs.Lowering.{Around, Formula, binds, looping, at, at_head, head_of, whole, part_place, puts, puts_at, constant, put_unit, moved, ends, dies_in, die_from, lazily, test, fork, split, met, is_place}
 
 abbrev pub label : ℕ → Label
 label l = record { 0 = l }
@@ -88,6 +93,60 @@ abbrev pub choice_text : Bool → Around → Span → (t m : ℕ) → List Line 
 choice_text true c s t m ys zs = fork c s t (label m) (label (m + 1)) ys zs
 choice_text false c s t m ys zs = test c s t (label m) (label (m + 1)) (label (m + 2)) ys zs
 
+-- ---- `match`
+
+-- the block behind the arms, unless all of them leave
+abbrev pub behind_labels : Bool → ℕ
+behind_labels true = 0
+behind_labels false = 1
+
+abbrev pub behind_label : Bool → ℕ → Option Label
+behind_label true l = None
+behind_label false l = Some (label l)
+
+-- the integer type of a literal at the type
+abbrev pub literal_rvalue : Ty → Place → ℤ → Rvalue
+literal_rvalue T p z = Binary Eq (Copy p) (Const (lit.Int z (kind_of T)))
+
+-- how many labels or locals the tests take, each so many besides the parts, and arm n so many
+abbrev pub tests_take : (each : ℕ) → (ℕ → ℕ) → Decision → ℕ
+tests_take each arm (leaf n bs) = arm n
+tests_take each arm (switch q Ds) = 0
+tests_take each arm (if_truth q D E) = each + tests_take each arm D + tests_take each arm E
+tests_take each arm (if_literal q z D E) = each + tests_take each arm D + tests_take each arm E
+
+-- with no tree there is no test
+abbrev pub match_takes : (each : ℕ) → (ℕ → ℕ) → Option Decision → ℕ
+match_takes each arm None = 0
+match_takes each arm (Some D) = tests_take each arm D
+
+-- a local that says which of two texts is run
+abbrev pub tested_by : Around → Span → ℕ → Rvalue → ℕ → Option Label → List Line → List Line → List Line
+tested_by c s u r m to xs ys = Makes u bool ∷ puts s u r ∷ split c s u (label m) (label (m + 1)) to xs ys
+
+-- the text of the tests, where arm n has so many labels, so many locals and the text with the numbers given
+abbrev pub tests_text : Around → Span → Ty → Place → Option Label → (ℕ → ℕ) → (ℕ → ℕ) → (ℕ → ℕ → ℕ → List Line) → Decision → ℕ → ℕ → List Line
+tests_text c s T p to ls ts arm (leaf n bs) l t = arm n l t
+tests_text c s T p to ls ts arm (switch q Ds) l t = []
+tests_text c s T p to ls ts arm (if_truth q D E) l t =
+    tested_by c s t (Use (Copy p)) l to (tests_text c s T p to ls ts arm D (l + 2) (t + 1)) (tests_text c s T p to ls ts arm E (l + 2 + tests_take 2 ls D) (t + 1 + tests_take 1 ts D))
+tests_text c s T p to ls ts arm (if_literal q z D E) l t =
+    tested_by c s t (literal_rvalue T p z) l to (tests_text c s T p to ls ts arm D (l + 2) (t + 1)) (tests_text c s T p to ls ts arm E (l + 2 + tests_take 2 ls D) (t + 1 + tests_take 1 ts D))
+
+abbrev pub tests_of : Around → Span → Ty → Place → Option Label → (ℕ → ℕ) → (ℕ → ℕ) → (ℕ → ℕ → ℕ → List Line) → Option Decision → ℕ → ℕ → List Line
+tests_of c s T p to ls ts arm None l t = []
+tests_of c s T p to ls ts arm (Some D) l t = tests_text c s T p to ls ts arm D l t
+
+-- the text of an arm, where its body has this text with the scope and the numbers given: a name that is bound is local t
+abbrev pub bound_text : List BoundName → (Around → ℕ → ℕ → List Line) → Around → Span → Ty → Place → ℕ → ℕ → List Line
+bound_text [] body c s T p l t = body c l t
+bound_text (y ∷ ys) body c s T p l t = Makes t T ∷ puts s t (Use (taken (is_copied c.types T) p)) ∷ (body (binds c t) l (t + 1) ++ dies_in false s t)
+
+-- how many locals the names of an arm are
+abbrev pub bound_locals : List BoundName → ℕ
+bound_locals [] = 0
+bound_locals (y ∷ ys) = 1
+
 -- ---- how many blocks the text begins
 
 abbrev mutual
@@ -108,8 +167,7 @@ abbrev mutual
   labels (block ty s ss) = labels_of ss
   labels (branch ty s e a) = labels e + 3 + labels a
   labels (choice ty s e a b) = labels e + choice_labels (leaves a && leaves b) + labels a + labels b
-  -- no row speaks of a match so far, and no text is lowered with one
-  labels (matched ty s e as') = 0
+  labels (matched ty s e as') = labels e + behind_labels (all_arms_leave as') + match_takes 2 (arm_labels as') (flat_tree (ty_of e) (patterns_of as'))
   labels (repeat ty s is e b) = 3 + labels e + labels b
   labels (panics ty s k) = 0
   labels (returned ty s e) = labels e
@@ -128,6 +186,12 @@ abbrev mutual
   pub labels_in : TypedExprs → ℕ
   labels_in none = 0
   labels_in (more e es) = labels e + labels_in es
+
+  -- of arm n
+  pub arm_labels : TypedArms → ℕ → ℕ
+  arm_labels no_arms n = 0
+  arm_labels (with_arm q ys e as') zero = labels e
+  arm_labels (with_arm q ys e as') (suc n) = arm_labels as' n
 
 -- ---- how many locals it makes
 
@@ -149,7 +213,7 @@ abbrev mutual
   locals (block ty s ss) = locals_of ss
   locals (branch ty s e a) = 1 + locals e + locals a
   locals (choice ty s e a b) = 1 + locals e + locals a + locals b
-  locals (matched ty s e as') = 0
+  locals (matched ty s e as') = temporary_count (is_place e) + locals e + match_takes 1 (arm_locals as') (flat_tree (ty_of e) (patterns_of as'))
   locals (repeat ty s is e b) = 1 + locals e + 1 + locals b
   locals (panics ty s k) = 0
   locals (returned ty s e) = locals e
@@ -168,6 +232,11 @@ abbrev mutual
   pub locals_in : TypedExprs → ℕ
   locals_in none = 0
   locals_in (more e es) = 1 + locals e + locals_in es
+
+  pub arm_locals : TypedArms → ℕ → ℕ
+  arm_locals no_arms n = 0
+  arm_locals (with_arm q ys e as') zero = bound_locals ys + locals e
+  arm_locals (with_arm q ys e as') (suc n) = arm_locals as' n
 
 -- the temporaries of expressions in a row
 abbrev pub temporaries : TypedExprs → ℕ → List ℕ
@@ -215,7 +284,12 @@ abbrev mutual
       let n = m + choice_labels (leaves a && leaves b) in
       let u = t + 1 + locals e in
       Makes t (ty_of e) ∷ (into e c l (t + 1) t ++ choice_text (leaves a && leaves b) c s t m (into a c n u d) (into b c (n + labels a) (u + locals a) d))
-  into (matched ty s e as') c l t d = []
+  into (matched ty s e as') c l t d =
+      let m = l + labels e in
+      let both = all_arms_leave as' in
+      place_text (is_place e) t (ty_of e) (place_before e c l t) (into e c l (t + 1) t)
+      ++ (tests_of c s (ty_of e) (place_of c.scope t e) (behind_label both m) (arm_labels as') (arm_locals as') (arm_into as' c s (ty_of e) (place_of c.scope t e) d) (flat_tree (ty_of e) (patterns_of as')) (m + behind_labels both) (t + temporary_count (is_place e) + locals e)
+      ++ met c s (behind_label both m))
   into (repeat ty s is e b) c l t d =
       let inside = looping c (label l) (label (l + 2)) in
       let u = t + 1 + locals e in
@@ -246,6 +320,12 @@ abbrev mutual
   rest (leaving e) outer s c l t d = Makes t (ty_of e) ∷ into e c l (t + 1) t
   rest (bind e ss) outer s c l t d = Makes t (ty_of e) ∷ (into e c l (t + 1) t ++ (rest ss outer s (binds c t) (l + labels e) (t + 1 + locals e) d ++ dies_in outer s t))
   rest (run e ss) outer s c l t d = Makes t (ty_of e) ∷ (into e c l (t + 1) t ++ rest ss outer s c (l + labels e) (t + 1 + locals e) d)
+
+  -- the text of arm n
+  pub arm_into : TypedArms → Around → Span → Ty → Place → ℕ → ℕ → ℕ → ℕ → List Line
+  arm_into no_arms c s T p d n l t = []
+  arm_into (with_arm q ys e as') c s T p d zero l t = bound_text ys (λ c l t. into e c l t d) c s T p l t
+  arm_into (with_arm q ys e as') c s T p d (suc n) l t = arm_into as' c s T p d n l t
 
   pub args : TypedExprs → Around → ℕ → ℕ → List Line
   args none c l t = []

@@ -1,6 +1,6 @@
 -- How many variables have to be in scope around an expression, so that each that it names is there. Contracts of the code alone speak of it.
-use Rattle.std.specs.Prelude.{ℕ, ◌+◌, ◌-◌, max}
-use Rattle.type_check.specs.TypedExpr.{TypedExpr, TypedStmts, TypedExprs, integer, truth, variable, negative, denied, cast, binary, lazy, assign, update, call, make, part, block, branch, choice, matched, repeat, panics, returned, endless, until_break, break_off, go_on, done, last, leaving, bind, run, none, more}
+use Rattle.std.specs.Prelude.{ℕ, ◌+◌, ◌-◌, max, length}
+use Rattle.type_check.specs.TypedExpr.{TypedExpr, TypedStmts, TypedExprs, integer, truth, variable, negative, denied, cast, binary, lazy, assign, update, call, make, part, block, branch, choice, matched, repeat, panics, returned, endless, until_break, break_off, go_on, done, last, leaving, bind, run, none, more, TypedArms, no_arms, with_arm}
 
 abbrev mutual
   pub reach : TypedExpr → ℕ
@@ -20,7 +20,7 @@ abbrev mutual
   reach (block ty s ss) = reach_of ss
   reach (branch ty s e a) = max (reach e) (reach a)
   reach (choice ty s e a b) = max (reach e) (max (reach a) (reach b))
-  reach (matched ty s e as') = 0
+  reach (matched ty s e as') = max (reach e) (reach_in_arms as')
   reach (repeat ty s is e b) = max (reach e) (reach b)
   reach (panics ty s k) = 0
   reach (returned ty s e) = reach e
@@ -40,3 +40,8 @@ abbrev mutual
   pub reach_in : TypedExprs → ℕ
   reach_in none = 0
   reach_in (more e es) = max (reach e) (reach_in es)
+
+  -- in an arm there is one variable more for each name that is bound
+  pub reach_in_arms : TypedArms → ℕ
+  reach_in_arms no_arms = 0
+  reach_in_arms (with_arm p ys e as') = max (reach e - length ys) (reach_in_arms as')

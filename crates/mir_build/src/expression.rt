@@ -23,6 +23,7 @@ use crate::block_end::BlockEnd;
 use crate::builder::{Builder, moved, whole};
 use crate::jump::{both_leave, lower_break, lower_continue};
 use crate::loops::{lower_endless, lower_repeat, lower_until_break};
+use crate::matches::lower_match;
 use crate::operand::{kind_of, push_left, take, take_place, type_of};
 use crate::stop::Stop;
 use crate::task::{Behind, Pending, Task};
@@ -178,7 +179,7 @@ fn lower_left<'a>(
         }
         TypedNode::If(x, y) => lower_branch(alloc, b, c, span, x, y, d),
         TypedNode::IfElse(x, y, z) => lower_choice(alloc, b, c, span, x, y, z, d),
-        TypedNode::Match(_, _) => unreachable!(),
+        TypedNode::Match(value, arms) => lower_match(alloc, b, c, span, value, arms, d),
         TypedNode::While(is, x, y) => lower_repeat(alloc, b, c, span, is, x, y, d),
         TypedNode::Panic(cause) => Ok(b.leave(span, TerminatorKind::Panic(*cause))?),
         TypedNode::Return(x) => lower_return(alloc, b, c, span, x),

@@ -14,6 +14,7 @@ mod laws;
 mod looping;
 mod loops;
 mod lowered;
+mod matches;
 mod operand;
 mod program;
 mod stop;

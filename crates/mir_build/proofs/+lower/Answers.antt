@@ -1,6 +1,8 @@
 use Rattle.std.proofs.Common.{◌≡◌, refl, Bool, true, false, List, [], ◌∷◌, ◌++◌, ◌∙◌, ap, sym, length, arith, append_assoc}
 use Rattle.std.proofs.lemmas.Result.{err_from_is_err_and}
 use Rattle.type_check.specs.TypedExpr.{done, last, leaving}
+use Rattle.type_check.specs.TypedExprView.{arms_of}
+use Rattle.std.proofs.Common.{subst, OnOk, ◌<◌}
 use Rattle.mir_ir.specs.declared.place.Place.{Place}
 use Rattle.mir_build.specs.Lowering.{Around, binds}
 use Rattle.mir_build.specs.Numbered.{rest}
@@ -10,6 +12,7 @@ use Rattle.mir_build.proofs.Scopes.{next_reaches}
 use Rattle.mir_build.proofs.TaskStack.{popped_text, popped_labels, popped_locals, popped_size, popped_reach, popped_good}
 use Rattle.mir_build.proofs.Runs.{running, args_at}
 use Rattle.mir_build.proofs.Bindings.{value_text}
+use Rattle.mir_build.proofs.MatchParts.{bound_arm_text, more_labels, written_match}
 use Rattle.mir_build.proofs.Statements.{around_behind, text_on, labels_at, locals_at, text_end, within_on, front_on, types_on, loops_on}
 use Rattle.mir_build.proofs.+lower.Goals.{expression::lower_rest-then-statement+in_ok-push, expression::lower_rest-else-statement, expression::lower_rest-in-Unit+in_ok-put_unit-in-Unit, expression::lower_rest-in-Value+in_ok-lower_into-in-Value, expression::lower_rest-in-Leaves+in_ok-lower_new-in-Leaves}
 use Rattle.mir_build.proofs.+lower.Goals as goal
@@ -123,3 +126,24 @@ expression::lower_rest-returns-clause-text t c =
     text_end c.args.statements.now c.loop-statement.statement-index end c.args.outer c.args.span c.len-before.result old (around c.match-end.c) l (length text.locals) c.args.d text c.match-end.b.text c.end_bindings.new.b.text
     c.loop-statement-test.false which.1 which.0 c.in_ok-end_bindings.ensures.text
     ∙ c.loop-statement.invariant.text
+
+pub matches::lower_arm-returns-in-1-clause-text : goal.matches::lower_arm-returns-in-1-clause-text
+matches::lower_arm-returns-in-1-clause-text t c =
+    let arm = c.index-arms-position.result in
+    let within : c.args.number < length c.args.arms.now = omega (arith, c.if-position-arms.false) in
+    let text = bound_arm_text c.args.arms.now c.args.number arm c.index-arms-position.is within (sym arm.names.ok.0 ∙ sym c.len.ensures ∙ c.in-1.is) (around c.args.c.now) c.args.span c.args.ty.now c.args.place.now c.args.d
+    c.args.b.now.labels (length c.args.b.now.text.locals) in
+    subst (λ xs. OnOk c.lower_bound.result (c.lower_bound.new.b.text ≡ written xs c.args.b.now.text)) (sym text) c.lower_bound.ensures.text
+
+pub matches::lower_match-returns-in_err-place-clause-limit : goal.matches::lower_match-returns-in_err-place-clause-limit
+matches::lower_match-returns-in_err-place-clause-limit t c =
+    let p = err_from_is_err_and c.from_residual.result c.from_residual.ensures.1 in
+    rw (p.1, p.2) (λ e. more_labels c.args.span c.args.value.now (arms_of c.args.arms.now) c.args.b.now.labels (c.in_err-place.ensures.limit e))
+
+pub matches::lower_match-returns-clause-text : goal.matches::lower_match-returns-clause-text
+matches::lower_match-returns-clause-text t c =
+    written_match c.args.span c.args.value.now (arms_of c.args.arms.now) (around c.args.c.now) (around c.lower_matched.new.c) (around c.lower_tests.new.c) c.args.b.now.labels c.lower_matched.new.b.labels c.take_behind.new.b.labels c.args.d
+    c.type_of.result.now c.type_of-2.result.now c.in_ok-place.place c.in_ok-after.after c.in_ok-tree.tree c.args.b.now.text c.lower_matched.new.b.text c.take_behind.new.b.text c.lower_tests.new.b.text c.meet.new.b.text
+    c.in_ok-place.ensures.place c.in_ok-place.ensures.text c.in_ok-place.ensures.labels c.in_ok-place.ensures.locals c.in_ok-place.ensures.around
+    c.type_of.ensures c.in_ok-tree.ensures c.in_ok-after.ensures.label c.in_ok-after.ensures.labels c.in_ok-after.ensures.text
+    c.type_of-2.ensures c.in_ok-lower_tests.ensures.text c.in_ok-lower_tests.ensures.around c.in_ok-meet.ensures.text

@@ -1,11 +1,12 @@
-use Rattle.std.proofs.Common.{◌≡◌, ◌+◌, ◌*◌, ◌++◌, ◌≤◌, None, max, take, drop, length, map}
-use Rattle.type_check.specs.TypedExprView.{typed_size, stmts_size, stmts_of, exprs_size, exprs_of}
+use Rattle.std.proofs.Common.{suc, ◌≡◌, ◌+◌, ◌*◌, ◌++◌, ◌≤◌, None, max, take, drop, length, map}
+use Rattle.type_check.specs.TypedExprView.{typed_size, stmts_size, stmts_of, exprs_size, exprs_of, arms_size, arms_of}
 use Rattle.mir_build.specs.Lowering.{moved}
 use Rattle.mir_build.specs.Numbered.{into, rest, labels, locals, args, temporaries, labels_of, locals_of, labels_in, locals_in}
 use Rattle.mir_build.specs.Tasks.{to_do, behind_size, task_size, tasks_text, tasks_labels, tasks_locals, tasks_size, tasks_reach, tasks_bad, tasks_weight}
 use Rattle.mir_build.specs.Reach.{reach, reach_of}
 use Rattle.mir_build.specs.Built.{written, around, end_of}
 use Rattle.mir_build.specs.Bindings.{left_of}
+use Rattle.mir_build.proofs.MatchParts.{arm_size, tests_size}
 use Rattle.mir_build.proofs.+lower.Given as goal
 
 abbrev pub decreases-expression::lower_into : goal.decreases-expression::lower_into
@@ -76,6 +77,24 @@ decreases-expression::lower_args l = 8 * exprs_size (exprs_of l.es.now)
 
 abbrev pub decreases-expression::lower_rest : goal.decreases-expression::lower_rest
 decreases-expression::lower_rest l = 8 * stmts_size (stmts_of l.statements.now (end_of l.end))
+
+abbrev pub decreases-matches::lower_match : goal.decreases-matches::lower_match
+decreases-matches::lower_match l = 8 * max (typed_size l.value.now) (arms_size (arms_of l.arms.now)) + 5
+
+abbrev pub decreases-matches::lower_matched : goal.decreases-matches::lower_matched
+decreases-matches::lower_matched l = 8 * typed_size l.value.now + 4
+
+abbrev pub decreases-matches::lower_tests : goal.decreases-matches::lower_tests
+decreases-matches::lower_tests l = tests_size (arm_size (arms_of l.arms.now)) l.tree.now
+
+abbrev pub decreases-matches::lower_sides : goal.decreases-matches::lower_sides
+decreases-matches::lower_sides l = suc (max (tests_size (arm_size (arms_of l.arms.now)) l.yes.now) (tests_size (arm_size (arms_of l.arms.now)) l.no.now))
+
+abbrev pub decreases-matches::lower_arm : goal.decreases-matches::lower_arm
+decreases-matches::lower_arm l = 8 * arm_size (arms_of l.arms.now) l.number + 4
+
+abbrev pub decreases-matches::lower_bound : goal.decreases-matches::lower_bound
+decreases-matches::lower_bound l = 8 * typed_size l.body.now + 3
 
 abbrev pub invariant-expression::lower_into-loop-task : goal.invariant-expression::lower_into-loop-task
 invariant-expression::lower_into-loop-task l = record {
