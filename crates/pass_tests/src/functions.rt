@@ -48,8 +48,8 @@ const NOT_BUILT: [Row; 57] = [
     (b"fn f() { #[variant(x)] while x {} }", Code::E20, 9, 10),
     (b"fn f() { #[requires(x)] while x {} }", Code::E20, 9, 10),
     (b"fn f() { loop { x.0; } }", Code::E20, 16, 17),
-    (b"fn f() { if let x = y {} }", Code::E20, 12, 15),
-    (b"fn f() { match x { _ => 1 } }", Code::E20, 9, 14),
+    (b"fn f() { if let (a, b) = y {} }", Code::E20, 16, 17),
+    (b"fn f() { match x { (a, b) => 1 } }", Code::E20, 19, 20),
     (b"fn f() { |x: i32| 1 }", Code::E20, 9, 10),
     (b"fn f() { return x.0 }", Code::E20, 16, 17),
     (b"fn f(mut self) {}", Code::E20, 5, 8),
@@ -93,12 +93,12 @@ const NOT_BUILT: [Row; 57] = [
         0,
         1,
     ),
-    (b"fn f() { while let x = y {} }", Code::E20, 15, 18),
+    (b"fn f() { while let (a, b) = y {} }", Code::E20, 19, 20),
     (
-        b"fn f() { 1 + if let x = y { 1 } else { 2 } }",
+        b"fn f() { 1 + if let (a, b) = y { 1 } else { 2 } }",
         Code::E20,
-        16,
-        19,
+        20,
+        21,
     ),
     (b"fn f() { g(*x) }", Code::E20, 11, 12),
     (b"fn f() { g(&mut x) }", Code::E20, 11, 12),
@@ -158,7 +158,7 @@ const NOT_RUN: [Row; 5] = [
 ];
 
 /// All forms are built.
-const BUILT: [(&'static [u8], usize); 7] = [
+const BUILT: [(&'static [u8], usize); 8] = [
     (
         b"#![allow(x)] use std::vec::Vec; #[doc(\"x\")] #[requires(true)] pub(crate) fn f() { #[inline] #[invariant(true)] while true {} }",
         1,
@@ -185,6 +185,10 @@ const BUILT: [(&'static [u8], usize); 7] = [
     ),
     (
         b"fn f() { return } fn g() { loop { while true { break; } } }",
+        2,
+    ),
+    (
+        b"fn f(x: u8) -> u8 { match x { 0 => 1, mut y => { y = 2; y } } } fn g(b: bool) { while let true = b { if let false = b { return; } } }",
         2,
     ),
 ];

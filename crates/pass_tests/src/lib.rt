@@ -6,6 +6,8 @@ mod cast_bodies;
 #[cfg(test)]
 mod depth;
 #[cfg(test)]
+mod flat_matches;
+#[cfg(test)]
 mod functions;
 #[cfg(test)]
 mod leaving_loops;

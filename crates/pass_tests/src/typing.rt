@@ -521,8 +521,8 @@ const FORMS_THAT_HAVE_NO_TYPE_YET: [Row; 12] = [
     (b"fn f<T>() {}", Some((Code::E20, 4, 7))),
     (b"trait T {}", Some((Code::E20, 0, 10))),
     (
-        b"fn f(x: i32) { if let y = x {} }",
-        Some((Code::E20, 15, 30)),
+        b"fn f(x: (i32, u8)) { if let y = x {} }",
+        Some((Code::E20, 21, 36)),
     ),
     (b"fn f() { a::b::c(); }", Some((Code::E20, 9, 18))),
     (b"#[variant(true)] fn f() {}", Some((Code::E20, 0, 16))),
@@ -693,4 +693,21 @@ const CHOICE_TERMS: [Row; 6] = [
 #[test]
 fn choice_terms(rt: HostRuntime) {
     expect(&rt, rt.alloc(), &CHOICE_TERMS);
+}
+
+const MISSING_ARMS: [Row; 2] = [
+    (
+        b"fn f(b: bool) -> i32 { match b { true => 1 } }",
+        Some((Code::E11, 23, 44)),
+    ),
+    (
+        b"fn f(b: bool) -> i32 { match b { true => 1, false => 2 } }",
+        None,
+    ),
+];
+
+/// A match that leaves a value out is refused at its whole.
+#[test]
+fn missing_arms(rt: HostRuntime) {
+    expect(&rt, rt.alloc(), &MISSING_ARMS);
 }

@@ -14,7 +14,7 @@ use std::alloc::Global;
 use text_core::{Code, Items, Names, PassError, SourceError, Span};
 
 /// The forms that are built. Whoever builds a form puts its word here.
-pub(crate) const BUILT: [Form; 48] = [
+pub(crate) const BUILT: [Form; 56] = [
     // ---- declared types
     Form::Struct,
     Form::Enum,
@@ -34,6 +34,12 @@ pub(crate) const BUILT: [Form; 48] = [
     Form::MathIntType,
     Form::LetMutable,
     Form::LetName,
+    Form::Any,
+    Form::MutablePattern,
+    Form::IntegerPattern,
+    Form::TruthPattern,
+    // Where it names a constructor, `type_check` refuses the match, which is not flat.
+    Form::NamePattern,
     // ---- terms
     Form::IntegerTerm,
     Form::TruthTerm,
@@ -49,6 +55,7 @@ pub(crate) const BUILT: [Form; 48] = [
     // ---- loops
     Form::Invariant,
     Form::While,
+    Form::WhileLet,
     Form::Loop,
     Form::Break,
     Form::Continue,
@@ -62,6 +69,8 @@ pub(crate) const BUILT: [Form; 48] = [
     Form::Name,
     Form::Block,
     Form::If,
+    Form::IfLet,
+    Form::Match,
     Form::Assign,
     Form::Update,
     Form::Lazy,

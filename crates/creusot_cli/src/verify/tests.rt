@@ -154,7 +154,7 @@ fn reports_are_byte_for_byte(rt: HostRuntime) -> Result<(), Fail> {
 }
 
 /// Sources, and what is printed of their refusal.
-const REFUSED: [(&[u8], &[u8]); 18] = [
+const REFUSED: [(&[u8], &[u8]); 19] = [
     // The words in their order, and tokens.
     (b"fn f(x: f64) -> i64 { x }", b"error E20 8..11 line 1\n"),
     (
@@ -198,6 +198,11 @@ const REFUSED: [(&[u8], &[u8]); 18] = [
         b"fn f(x: i32) -> u8 { x as u8 }",
         b"error E07 21..28 line 1\n",
     ),
+    // What a match leaves out.
+    (
+        b"fn f(b: bool) -> i32 { match b { true => 1 } }",
+        b"error E11 23..44 line 1\n",
+    ),
 ];
 
 #[test]
@@ -214,7 +219,10 @@ const NOT_BUILT: [(&[u8], &[u8]); 23] = [
     (b"trait T {}", b"error E20 0..5 line 1\n"),
     (b"fn f<T>() {}", b"error E20 4..5 line 1\n"),
     (b"fn f(x: &u32) {}", b"error E20 8..9 line 1\n"),
-    (b"fn f(x: u32) { match x {} }", b"error E20 15..20 line 1\n"),
+    (
+        b"fn f(x: u32) { match x { (y, z) => {} } }",
+        b"error E20 25..26 line 1\n",
+    ),
     (b"fn f() { loop { (1, 2); } }", b"error E20 16..17 line 1\n"),
     (b"fn f(x: u32) { x.y; }", b"error E20 15..16 line 1\n"),
     (b"fn f() { let (a, b) = 1; }", b"error E20 13..14 line 1\n"),
