@@ -53,6 +53,40 @@ end
     b"verified abs_diff\nsummary functions 1 verified 1 obligations 6 proved 6\n",
 );
 
+const AT_LEAST_ONE: Example = (
+    b"// A number, and one for none.
+#[ensures(x@ == 0 ==> result@ == 1)]
+#[ensures(1 <= x@ ==> result@ == x@)]
+fn at_least_one(x: u32) -> u32 {
+    match x {
+        0 => 1,
+        n => n,
+    }
+}
+",
+    b"creusot-proofs 1
+proof 1 at_least_one
+intro x
+refl
+end
+# x is 0, and not past it.
+proof 2 at_least_one
+intro x
+lin 1:1.1 1:1.2
+end
+# n is not 0.
+proof 3 at_least_one
+intro x
+absurd 1.2 1.1
+end
+proof 4 at_least_one
+intro x
+refl
+end
+",
+    b"verified at_least_one\nsummary functions 1 verified 1 obligations 4 proved 4\n",
+);
+
 const CLAMP: Example = (
     b"// A number moved to the nearest within bounds.
 #[requires(low@ <= high@)]
@@ -649,8 +683,18 @@ end
     b"verified mean\nsummary functions 1 verified 1 obligations 4 proved 4\n",
 );
 
-const EXAMPLES: [Example; 10] = [
-    ABS_DIFF, CLAMP, CLIMB, COUNTER, DOUBLE, EVEN, GCD, ISQRT, MAX, MEAN,
+const EXAMPLES: [Example; 11] = [
+    ABS_DIFF,
+    AT_LEAST_ONE,
+    CLAMP,
+    CLIMB,
+    COUNTER,
+    DOUBLE,
+    EVEN,
+    GCD,
+    ISQRT,
+    MAX,
+    MEAN,
 ];
 
 #[test]
