@@ -193,7 +193,8 @@ then_behind false m ns h = from_both m (m + 1) (m ∷ []) ns (omega arith) (refl
 
 -- a match, by its place and its tests
 matched_by : (ty : Ty) (s : Span) (e : TypedExpr) (as' : TypedArms) (c : Around) (l t d : ℕ) (D : Decision) (zs : List Line) → flat_tree (ty_of e) (patterns_of as') ≡ Some D → PlaceLowered c e (place_of c.scope t e) l (text_before e c l t)
-    → zs ≡ tests_of c s (ty_of e) (place_of c.scope t e) (behind_label (all_arms_leave as') (l + labels e)) (arm_labels as') (arm_locals as') (arm_into as' c s (ty_of e) (place_of c.scope t e) d) (Some D) (l + labels e + behind_labels (all_arms_leave as')) (t + temporary_count (is_place e) + locals e)
+    → zs ≡ tests_of c s (ty_of e) (place_of c.scope t e) (behind_label (all_arms_leave as') (l + labels e)) (arm_labels as') (arm_locals as')
+    (arm_into as' c s (ty_of e) (place_of c.scope t e) d) (Some D) (l + labels e + behind_labels (all_arms_leave as')) (t + temporary_count (is_place e) + locals e)
     → TestsLowered c s (ty_of e) (place_of c.scope t e) as' (behind_label (all_arms_leave as') (l + labels e)) D d (l + labels e + behind_labels (all_arms_leave as')) zs → Lowered c (matched ty s e as') d l (into (matched ty s e as') c l t d)
 matched_by ty s e as' c l t d D zs q p r z =
     let m = l + labels e in

@@ -200,7 +200,9 @@ fn lower_tests(
 ) -> Result<(), Stop>
     requires scope { reach_in_arms (arms_of arms.now) ≤ length c.old.scope.items }
     requires good { bad_in_arms (arms_of arms.now) ≡ None }
-    ensures text { OnOk result (b.new.text ≡ written (tests_text (around c.old) span ty.now place.now after (arm_labels (arms_of arms.now)) (arm_locals (arms_of arms.now)) (arm_into (arms_of arms.now) (around c.old) span ty.now place.now d) tree.now b.old.labels (length b.old.text.locals)) b.old.text) }
+    ensures text { OnOk result (b.new.text ≡ written
+        (tests_text (around c.old) span ty.now place.now after (arm_labels (arms_of arms.now)) (arm_locals (arms_of arms.now))
+        (arm_into (arms_of arms.now) (around c.old) span ty.now place.now d) tree.now b.old.labels (length b.old.text.locals)) b.old.text) }
     ensures labels { OnOk result (b.new.labels ≡ b.old.labels + tests_take 2 (arm_labels (arms_of arms.now)) tree.now) }
     ensures locals { OnOk result (length b.new.text.locals ≡ length b.old.text.locals + tests_take 1 (arm_locals (arms_of arms.now)) tree.now) }
     ensures limit { IfErr result (λ stop. stop ≡ Blocks → 4096 < b.old.labels + tests_take 2 (arm_labels (arms_of arms.now)) tree.now) }
