@@ -19,6 +19,8 @@ mod plan;
 #[cfg(test)]
 mod programs;
 #[cfg(test)]
+mod struct_programs;
+#[cfg(test)]
 mod tests;
 
 use crate::verify::answer::Plan;

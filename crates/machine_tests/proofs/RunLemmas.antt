@@ -24,6 +24,7 @@ use Rattle.mir_ir.specs.declared.body.Block.{Block}
 use Rattle.mir_ir.specs.declared.body.Body.{Body}
 use Rattle.mir_ir.specs.Body.{block_in}
 use Rattle.mir_ir.specs.Layout.{among}
+use Rattle.mir_ir.specs.Paths.{in_field, at_end}
 use Rattle.mir_ir.specs.WellFormed.{HasBlock, operation_ty, IsSigned, RvalueHas, StatementIsTyped, EndIsTyped, IsTyped, Locals, without, with, Within, parameters, IsInitialised, AreSound}
 use Rattle.mir_ir.proofs.Taking.{rows_together, CanEvaluate, evaluated, CanRun, run, CanEnd, Carries}
 use Rattle.mir_machine.specs.Tree.{Tree, Int, Truth, trees_of}
@@ -31,7 +32,7 @@ use Rattle.mir_machine.specs.Frame.{State}
 use Rattle.mir_machine.specs.Step.{whole}
 use Rattle.mir_machine.specs.Typed.{Met, Typed, AreTyped, is_int, is_truth, none_typed, more_typed}
 use Rattle.mir_machine.specs.Good.{IsProper, called}
-use Rattle.machine_tests.specs.Run.{sample, absolute, calling, panicking, alone, program, option_decl, option_id, option_ty, option_of, choosing_body, choosing, label, IsScalarOf, TakesOne}
+use Rattle.machine_tests.specs.Run.{sample, absolute, calling, panicking, alone, program, option_decl, option_id, option_ty, option_of, choosing_body, choosing, pair_ty, parting_body, label, IsScalarOf, TakesOne}
 use Rattle.mir_ir.specs.declared.body.Bodies.{Bodies}
 
 -- ---- bodies, block by block
@@ -331,6 +332,46 @@ some_sound bodies are =
 
 pub choosing_takes : (bodies : Bodies) (r : Rvalue) (t : Tree (Unit {0})) (x : ℤ) → bodies ≡ choosing r → t ≡ Int x → fits I32 x ≡ true → TakesOne bodies 0 t
 choosing_takes bodies r t x are is_x x_fits = (choosing_body r, int I32, ap (λ (bs : Bodies). slice_get bs.bodies 0) are, refl, subst (IsScalarOf (int I32)) (sym is_x) x_fits)
+
+-- ---- a part of a pair
+
+abbrev parting_sets : Sets
+parting_sets l zero = parameters parting_body
+parting_sets l (suc zero) = with 2 (parameters parting_body)
+parting_sets l (suc (suc i)) = with 0 (with 2 (parameters parting_body))
+
+parting_body_sound : BodyIsSound (alone parting_body) parting_body parting_sets
+parting_body_sound = record {
+  ground = refl;
+  named = refl;
+  answers = omega arith;
+  begins = (_, refl);
+  entry = λ x h. h;
+  blocks = (
+    record {
+      statements = (
+        ((pair_ty, (refl, refl), (int I32 ∷ int I32 ∷ [], ((refl, refl), ((refl, refl), tt)), refl)), (tt, (refl, tt)), λ x h. h),
+        (((int I32, (refl, refl), (pair_ty, refl, in_field refl at_end)), refl, λ x h. h), tt),
+      );
+      typed = tt;
+      can_end = refl;
+      carries = tt;
+    },
+    tt,
+  );
+}
+
+pub parting_sound : (bodies : Bodies) → bodies ≡ alone parting_body → AreSound bodies
+parting_sound bodies are = subst AreSound (sym are) sound
+  where
+    sound : AreSound (alone parting_body)
+    sound zero b e =
+        subst (λ c. IsTyped (alone parting_body) c × IsInitialised c × (c.id ≡ 0)) (same_Some _ _ e)
+        (body_sound (alone parting_body) parting_body parting_sets 0 refl parting_body_sound)
+    sound (suc f) b e = absurd (cc)
+
+pub parting_takes : (bodies : Bodies) (t : Tree (Unit {0})) (x : ℤ) → bodies ≡ alone parting_body → t ≡ Int x → fits I32 x ≡ true → TakesOne bodies 0 t
+parting_takes bodies t x are is_x x_fits = (parting_body, int I32, ap (λ (bs : Bodies). slice_get bs.bodies 0) are, refl, subst (IsScalarOf (int I32)) (sym is_x) x_fits)
 
 -- ---- calls
 

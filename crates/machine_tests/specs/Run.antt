@@ -10,12 +10,13 @@ use Rattle.logic_term.specs.declared.declaration.FieldDecl.{FieldDecl}
 use Rattle.logic_term.specs.declared.declaration.VariantDecl.{VariantDecl}
 use Rattle.logic_term.specs.declared.declaration.VariantKind.TheVariants.{Numbered}
 use Rattle.logic_term.specs.declared.kinds.AdtId.{AdtId}
-use Rattle.logic_term.specs.declared.kinds.Ctor.TheVariants.{Variant}
+use Rattle.logic_term.specs.declared.kinds.Ctor.TheVariants.{Tuple, Variant}
 use Rattle.logic_term.specs.declared.kinds.Label.{Label}
 use Rattle.source_kinds.specs.Range.{fits}
-use Rattle.logic_term.specs.Ty.{Ty, int, bool, adt, param, no_tys, and_ty}
+use Rattle.logic_term.specs.Ty.{Ty, int, bool, tuple, adt, param, no_tys, and_ty}
 use Rattle.mir_ir.specs.declared.place.Lit.TheVariants as lit
 use Rattle.mir_ir.specs.declared.place.Operand.{Operand}
+use Rattle.mir_ir.specs.declared.place.Proj.TheVariants.{Field}
 use Rattle.mir_ir.specs.declared.place.Operand.TheVariants.{Copy, Move, Const}
 use Rattle.mir_ir.specs.declared.statement.Rvalue.{Rvalue}
 use Rattle.mir_ir.specs.declared.statement.Rvalue.TheVariants.{Use, Binary, Neg, Make}
@@ -138,6 +139,24 @@ choosing_body r = body_of 0 (int I32 ∷ int I32 ∷ option_ty ∷ []) (name 100
 
 abbrev pub choosing : Rvalue → Bodies
 choosing r = record { bodies = choosing_body r ∷ []; decls = option_decl ∷ []; impls = []; closures = [] }
+
+-- ---- a part of a pair
+
+-- (i32, i32)
+abbrev pub pair_ty : Ty
+pair_ty = tuple (and_ty (int I32) (and_ty (int I32) no_tys))
+
+-- of 3 and the parameter
+abbrev pub pair : Rvalue
+pair = Make Tuple (Const (lit.Int (pos 3) I32) ∷ Copy (whole 1) ∷ [])
+
+-- the second part of the local
+abbrev pub second_of : ℕ → Operand
+second_of x = Copy (record { local = x; path = Field 1 ∷ [] })
+
+-- the second part of the pair is the answer
+abbrev pub parting_body : Body
+parting_body = body_of 0 (int I32 ∷ int I32 ∷ pair_ty ∷ []) (name 100 ∷ name 101 ∷ name 102 ∷ []) ((label 0, block_of (assigned 2 pair ∷ assigned 0 (Use (second_of 2)) ∷ []) Return) ∷ [])
 
 -- ---- calls of them
 

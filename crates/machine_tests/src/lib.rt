@@ -4,6 +4,8 @@
 #[cfg(test)]
 mod bodies;
 #[cfg(test)]
+mod goals;
+#[cfg(test)]
 mod obligations;
 #[cfg(test)]
 mod runs;

@@ -3,14 +3,17 @@ ghost use Rattle.std.specs.Prelude.{◌≡◌, ◌<◌, ◌∷◌, [], None, IfO
 ghost use Rattle.mir_ir.specs.declared.terminator.TerminatorKind.TheVariants.{If};
 ghost use Rattle.machine_tests.specs.Walked.{block_of, body_of, whole, straight, panicking, branching, switching, looping, calling, forking, IsForking, CanBeWalked};
 
+use crate::goals::{
+    ANSWERED, CAST, HELD, IN_RANGE, IS_NONE, IS_SOME, NEVER, PAIR, PART, PART_OF_PARAMETER, SMALL,
+};
 use goal_text::{Spelling, goal_text};
 use logic_term::{
     AdtDecl, AdtId, CompoundTy, Contract, Ctor, FieldDecl, Label, Obligation, Term, Ty, TyNode,
     TyUnary, VariantDecl, VariantKind,
 };
 use mir_ir::{
-    Block, Body, Callee, Contracts, FnId, Head, Initialised, Lit, Operand, Place, Resolves, Rvalue,
-    Statement, StatementKind, Terminator, TerminatorKind,
+    Block, Body, Callee, Contracts, FnId, Head, Initialised, Lit, Operand, Place, Proj, Resolves,
+    Rvalue, Statement, StatementKind, Terminator, TerminatorKind,
 };
 use source_kinds::{ArithOp, BinaryOp, IntKind};
 use std::alloc::Global;
@@ -430,6 +433,10 @@ enum Sample {
     Box,
     /// `answer = (x, x)`
     Pair,
+    /// `pair = (1, x)`, and then `answer = pair.1`
+    Part,
+    /// `answer = x.1`, where the parameter is a pair.
+    PartOfParameter,
     /// It multiplies in a loop with one invariant.
     Loop,
     /// It answers what another function answers of x.
@@ -497,23 +504,72 @@ fn of_box(alloc: Global) -> Result<Vec<Obligation>, PassError> {
     owed_by(alloc, body.get())
 }
 
+/// `(i32, i32)`
+fn pair(alloc: Global) -> Result<Ty, NoMemory> {
+    let mut parts = Vec::new(alloc);
+    parts.push(Ty::int(IntKind::I32))?;
+    parts.push(Ty::int(IntKind::I32))?;
+    Ok(Ty {
+        node: TyNode::Tuple(parts),
+    })
+}
+
 fn of_pair(alloc: Global) -> Result<Vec<Obligation>, PassError> {
     let mut operands = one(alloc, copied(alloc, 1))?;
     operands.push(copied(alloc, 1))?;
     let statements = answer_gets(alloc, 10, Rvalue::Make(Ctor::Tuple, operands))?;
-    let mut parts = Vec::new(alloc);
-    parts.push(Ty::int(IntKind::I32))?;
-    parts.push(Ty::int(IntKind::I32))?;
-    let pair = Ty {
-        node: TyNode::Tuple(parts),
-    };
-    let mut types = one(alloc, pair)?;
+    let mut types = one(alloc, pair(alloc)?)?;
     types.push(Ty::int(IntKind::I32))?;
     let body = straight(alloc, types, statements)?;
     let mut wanted = Vec::new(alloc);
     wanted.push(Term::var(alloc, X)?)?;
     wanted.push(Term::var(alloc, X)?)?;
     let promises = answering(alloc, Term::made(alloc, Ctor::Tuple, wanted)?)?;
+    owed(alloc, body.get(), promises.get(), None)
+}
+
+/// The second part of the local.
+fn second_of(alloc: Global, local: u32) -> Result<Rvalue, NoMemory> {
+    let path = one(alloc, Proj::Field(1))?;
+    Ok(Rvalue::Use(Operand::Copy(Place { local, path })))
+}
+
+/// Local 2 gets the pair of 1 and the parameter.
+fn pair_made(alloc: Global) -> Result<Statement, NoMemory> {
+    let place = Place {
+        local: 2,
+        path: Items::new(alloc),
+    };
+    let first = Operand::Const(Lit::Int(1, IntKind::I32));
+    let mut operands = one(alloc, first)?;
+    operands.push(copied(alloc, 1))?;
+    let kind = StatementKind::Assign(place, Rvalue::Make(Ctor::Tuple, operands));
+    Ok(Statement { span: END, kind })
+}
+
+fn of_part(alloc: Global) -> Result<Vec<Obligation>, PassError> {
+    let mut statements = one(alloc, pair_made(alloc)?)?;
+    let span = Span { start: 10, end: 11 };
+    let place = Place {
+        local: 0,
+        path: Items::new(alloc),
+    };
+    let kind = StatementKind::Assign(place, second_of(alloc, 2)?);
+    statements.push(Statement { span, kind })?;
+    let mut types = one(alloc, Ty::int(IntKind::I32))?;
+    types.push(Ty::int(IntKind::I32))?;
+    types.push(pair(alloc)?)?;
+    let body = straight(alloc, types, statements)?;
+    owed_by(alloc, body.get())
+}
+
+fn of_part_of_parameter(alloc: Global) -> Result<Vec<Obligation>, PassError> {
+    let statements = answer_gets(alloc, 10, second_of(alloc, 1)?)?;
+    let mut types = one(alloc, Ty::int(IntKind::I32))?;
+    types.push(pair(alloc)?)?;
+    let body = straight(alloc, types, statements)?;
+    let wanted = Term::field(alloc, Term::var(alloc, X)?, 0)?;
+    let promises = answering(alloc, wanted)?;
     owed(alloc, body.get(), promises.get(), None)
 }
 
@@ -547,6 +603,8 @@ fn made_of(alloc: Global, sample: Sample) -> Result<Vec<Obligation>, PassError> 
         Sample::Switch => of_switch(alloc),
         Sample::Box => of_box(alloc),
         Sample::Pair => of_pair(alloc),
+        Sample::Part => of_part(alloc),
+        Sample::PartOfParameter => of_part_of_parameter(alloc),
         Sample::Loop => of_loop(alloc),
         Sample::Call => of_call(alloc),
     }
@@ -555,36 +613,8 @@ fn made_of(alloc: Global, sample: Sample) -> Result<Vec<Obligation>, PassError> 
 /// A kind, the first byte, and the goal as text; where there is none, the goal is not looked at.
 type Owed = (Kind, u32, &'static [u8]);
 
-/// `-2147483648 <= x@ + 1 && x@ + 1 <= 2147483647`
-const IN_RANGE: &[u8] =
-    b"(forall<v1: i32> ((v1@ < 100) ==> (((-2147483648) <= (v1@ + 1)) && ((v1@ + 1) <= 2147483647))))";
-
-/// For each value that is `x@ + 1` that it is `x@ + 1`.
-const ANSWERED: &[u8] =
-    b"(forall<v1: i32> ((v1@ < 100) ==> (forall<v2: i32> ((v2@ == (v1@ + 1)) ==> (v2@ == (v1@ + 1))))))";
-
-/// For each value of the wider type that is `x@` that it is `x@ + 1`.
-const CAST: &[u8] =
-    b"(forall<v1: u8> ((v1@ < 100) ==> (forall<v2: i16> ((v2@ == v1@) ==> (v2@ == (v1@ + 1))))))";
-
-const NEVER: &[u8] = b"(forall<v1: i32> ((v1@ < 100) ==> false))";
-
-const SMALL: &[u8] = b"(forall<v1: i32> ((v1@ < 100) ==> (v1@ < 100)))";
-
-/// For each value that is `None` that this is the value.
-const IS_NONE: &[u8] = b"(forall<v1: Option<i32>> ((v1 == Option::None) ==> (Option::None == v1)))";
-
-/// For each value that is `Some` of a value that this is the value.
-const IS_SOME: &[u8] =
-    b"(forall<v1: Option<i32>> (forall<v2: i32> ((v1 == Option::Some(v2)) ==> (Option::Some(v2) == v1))))";
-
-/// A box is what it holds.
-const HELD: &[u8] = b"(forall<v1: i32> ((v1@ < 100) ==> (v1@ == (v1@ + 1))))";
-
-const PAIR: &[u8] = b"(forall<v1: i32> ((v1, v1) == (v1, v1)))";
-
 /// What is owed, in order.
-const SAMPLES: [(Sample, &'static [Owed]); 11] = [
+const SAMPLES: [(Sample, &'static [Owed]); 13] = [
     (
         Sample::Operation(IntKind::I32, BinaryOp::Add),
         &[
@@ -625,6 +655,11 @@ const SAMPLES: [(Sample, &'static [Owed]); 11] = [
     ),
     (Sample::Box, &[(Kind::Ensures, 80, HELD)]),
     (Sample::Pair, &[(Kind::Ensures, 80, PAIR)]),
+    (Sample::Part, &[(Kind::Ensures, 80, PART)]),
+    (
+        Sample::PartOfParameter,
+        &[(Kind::Ensures, 80, PART_OF_PARAMETER)],
+    ),
     (
         Sample::Loop,
         &[

@@ -4,14 +4,15 @@ ghost use Rattle.mir_ir.specs.WellFormed.{operation_ty, IsSigned, AreSound};
 ghost use Rattle.mir_ir.specs.declared.place.Operand.TheVariants.{Copy};
 ghost use Rattle.mir_machine.specs.Tree.{Int};
 ghost use Rattle.mir_machine.specs.Step.{whole};
-ghost use Rattle.machine_tests.specs.Run.{assigned, block_of, body_of, of_block, of_bodies, alone, sample, tests, negates, keeps, absolute_blocks, absolute, calling_blocks, calling, panicking, program, variant, option_decl, option_ty, option_of, answers, choosing_blocks, choosing_body, choosing, TakesOne};
+ghost use Rattle.machine_tests.specs.Run.{assigned, block_of, body_of, of_block, of_bodies, alone, sample, tests, negates, keeps, absolute_blocks, absolute, calling_blocks, calling, panicking, program, variant, option_decl, option_ty, option_of, answers, choosing_blocks, choosing_body, choosing};
+ghost use Rattle.machine_tests.specs.Run.{pair_ty, pair, second_of, parting_body, TakesOne};
 
 use logic_term::{
     AdtDecl, AdtId, CompoundTy, Ctor, FieldDecl, Instance, Label, Ty, TyNode, VariantDecl,
     VariantKind,
 };
 use mir_ir::{
-    Block, Bodies, Body, Callee, FnId, Lit, Operand, Place, Rvalue, Statement, StatementKind,
+    Block, Bodies, Body, Callee, FnId, Lit, Operand, Place, Proj, Rvalue, Statement, StatementKind,
     Terminator, TerminatorKind,
 };
 use mir_machine::{Args, Machine, NoIntrinsics, Outcome, Tree, TreeNode};
@@ -371,6 +372,59 @@ fn option_of(variant: u32, operands: Items<Operand>) -> Rvalue
     Rvalue::Make(Ctor::Variant(AdtId(0), variant), operands)
 }
 
+// ---- a part of a pair
+
+/// `(i32, i32)`
+fn pair_ty(alloc: Global) -> Result<Ty, NoMemory>
+    ensures { IfOk result (λ ty. ty ≡ pair_ty) }
+{
+    let mut parts = Vec::new(alloc);
+    parts.push(Ty::int(IntKind::I32))?;
+    parts.push(Ty::int(IntKind::I32))?;
+    Ok(Ty {
+        node: TyNode::Tuple(parts),
+    })
+}
+
+/// `(3, x)`
+fn pair(alloc: Global) -> Result<Rvalue, NoMemory>
+    ensures { IfOk result (λ r. r ≡ pair) }
+{
+    let three = Operand::Const(Lit::Int(3, IntKind::I32));
+    let mut operands = one(alloc, three)?;
+    operands.push(copied(alloc, 1))?;
+    Ok(Rvalue::Make(Ctor::Tuple, operands))
+}
+
+/// The second part of the local.
+fn second_of(alloc: Global, local: u32) -> Result<Operand, NoMemory>
+    ensures { IfOk result (λ o. o ≡ second_of local) }
+{
+    let path = one(alloc, Proj::Field(1))?;
+    Ok(Operand::Copy(Place { local, path }))
+}
+
+/// `fn f(x: i32) -> i32 { let pair = (3, x); pair.1 }`
+fn parting_body(alloc: Global) -> Result<Body, NoMemory>
+    ensures { IfOk result (λ b. b ≡ parting_body) }
+{
+    let mut statements = one(alloc, assign(alloc, 2, pair(alloc)?))?;
+    let part = Rvalue::Use(second_of(alloc, 2)?);
+    statements.push(assign(alloc, 0, part))?;
+    let block = block(alloc, statements, TerminatorKind::Return);
+    let mut locals = two(alloc, Ty::int(IntKind::I32), Ty::int(IntKind::I32))?;
+    locals.push(pair_ty(alloc)?)?;
+    let names = [Name(100), Name(101), Name(102)];
+    body(alloc, 0, locals, &names, one(alloc, (Label(0), block))?)
+}
+
+fn parting(alloc: Global) -> Result<Boxed<Bodies>, NoMemory>
+    ensures { IfOk result (λ p. p ≡ alone parting_body) }
+{
+    let bodies = one(alloc, parting_body(alloc)?)?;
+    Boxed::new(alloc, of_bodies(alloc, bodies))
+}
+
 // ---- runs
 
 /// What a run has come to.
@@ -463,6 +517,12 @@ fn some_chosen(alloc: Global) -> Result<Came, Fail> {
     let operands = one(alloc, copied(alloc, 1))?;
     let bodies = choosing(alloc, option_of(1, operands))?;
     run_of(alloc, bodies.get(), 0, integer(5), 99)
+}
+
+/// What the second part of 3 and the parameter is.
+fn second_part(alloc: Global) -> Result<Came, Fail> {
+    let bodies = parting(alloc)?;
+    run_of(alloc, bodies.get(), 0, integer(5), 7)
 }
 
 /// The number of the body that calls the absolute value, or of the absolute value itself.
@@ -659,5 +719,11 @@ fn makes_the_unit(rt: HostRuntime) -> Result<(), Fail> {
 fn switches_go_to_the_variant(rt: HostRuntime) -> Result<(), Fail> {
     assert!(rt; none_chosen(rt.alloc())? == Came::Integer(10));
     assert!(rt; some_chosen(rt.alloc())? == Came::Integer(11));
+    Ok(())
+}
+
+#[test]
+fn copies_a_part_of_a_pair(rt: HostRuntime) -> Result<(), Fail> {
+    assert!(rt; second_part(rt.alloc())? == Came::Integer(5));
     Ok(())
 }

@@ -46,7 +46,7 @@ has_tree : (s : Span) (o : Option Decision) → uncovered s o ≡ None → (D : 
 has_tree s None e = absurd (cc)
 has_tree s (Some D) e = (D, refl)
 
-both_hold : (a b : Bool) → a && b ≡ true → (a ≡ true) × (b ≡ true)
+pub both_hold : (a b : Bool) → a && b ≡ true → (a ≡ true) × (b ≡ true)
 both_hold true b e = (refl, e)
 both_hold false b e = absurd (cc)
 

@@ -13,12 +13,14 @@ use Rattle.source_kinds.specs.declared.kinds.LazyOp.{LazyOp}
 use Rattle.source_kinds.specs.declared.kinds.LazyOp.TheVariants.{And, Or}
 use Rattle.pat_check.specs.Decision.{Decision, leaf, switch, if_truth, if_literal}
 use Rattle.pat_check.specs.Flat.{flat_tree}
-use Rattle.type_check.specs.TypedExpr.{TypedExpr, TypedStmts, TypedExprs, integer, truth, variable, negative, denied, cast, binary, lazy, assign, update, call, make, part, block, branch, choice, matched, repeat, panics, returned, endless, until_break, break_off, go_on, done, last, leaving, bind, run, none, more, TypedArms, no_arms, with_arm}
+use Rattle.type_check.specs.TypedExpr.{TypedExpr, TypedStmts, TypedExprs, integer, truth, variable, negative, denied, cast, binary, lazy, assign, update, call, make, part, block, branch, choice, matched, repeat, panics, returned, endless}
+use Rattle.type_check.specs.TypedExpr.{until_break, break_off, go_on, done, last, leaving, bind, run, none, more, TypedArms, no_arms, with_arm}
 use Rattle.type_check.specs.Leaves.{leaves, all_arms_leave}
 use Rattle.type_check.specs.TypedExprView.{ty_of, patterns_of}
 use Rattle.mir_build.specs.Text.{Line, Puts, Makes, Turns, Leaves, Owns, made}
 use Rattle.mir_build.specs.Lowering.{Around, binds, looping, at, at_head, dies, dies_in, lazily, met, numbers, is_place}
-use Rattle.mir_build.specs.Numbered.{place_of, behind_label, behind_labels, tests_take, match_takes, tested_by, tests_text, tests_of, arm_labels, arm_locals, arm_into, temporary_count, text_before, place_before, choice_labels, choice_text, loop_at, jump, into, rest, args, body_text, labels, labels_of, labels_in, locals, locals_of, locals_in, label}
+use Rattle.mir_build.specs.Numbered.{place_of, behind_label, met_labels, tests_take, match_takes, tested_by, tests_text, tests_of, arm_labels, arm_locals, arm_into, temporary_count, text_before, place_before, choice_labels, choice_text, loop_at}
+use Rattle.mir_build.specs.Numbered.{jump, into, rest, args, body_text, labels, labels_of, labels_in, locals, locals_of, locals_in, label}
 use Rattle.mir_build.proofs.Jumps.{deaths, first_dies_last}
 use Rattle.mir_build.proofs.Numbers.{within, within_zero, within_one, within_two, within_three, within_split, begins, begins-append, turns, turns-append, makings, makings-append}
 use Rattle.mir_build.proofs.Order.{InOrder, then_in_order, numbers_in_order}
@@ -190,7 +192,7 @@ match_filled c s T p to ls ts arm h None l t = nothing l t
 match_filled c s T p to ls ts arm h (Some D) l t = tests_filled c s T p to ls ts arm h D l t
 
 -- the block behind takes its label before them
-met_filled : {n t m : ℕ} (all : Bool) (c : Around) (s : Span) (l : ℕ) (xs : List Line) → Fills (l + behind_labels all) n t m xs → Fills l (behind_labels all + n) t m (xs ++ met c s (behind_label all l))
+met_filled : {n t m : ℕ} (all : Bool) (c : Around) (s : Span) (l : ℕ) (xs : List Line) → Fills (l + met_labels all) n t m xs → Fills l (met_labels all + n) t m (xs ++ met c s (behind_label all l))
 met_filled {n} {t} {m} true c s l xs p = as_counts _ (omega arith) (omega arith) (join _ _ xs [] refl refl (subst (λ k. Fills k n t m xs) (omega arith) p) (nothing _ _))
 met_filled {n} {t} {m} false c s l xs p =
     let end = met c s (Some (label l)) in

@@ -13,6 +13,7 @@ use Rattle.mir_ir.specs.WellFormed.{StatementIsTyped, EndIsTyped, HasBlock}
 use Rattle.mir_build.specs.Text.{Line, Puts, Makes, Turns, Leaves, Owns, Front, Stands, Nowhere, fresh, longer}
 use Rattle.mir_build.specs.Lowering.{ends}
 use Rattle.mir_build.proofs.LawNames.{HeadFits}
+use Rattle.logic_term.specs.declared.declaration.AdtDecl.{AdtDecl}
 use Rattle.mir_build.proofs.LawTyped.{EndFits, is_local, AreTyped}
 use Rattle.mir_build.proofs.LawLayout.{blocks_of}
 use Rattle.mir_build.proofs.LawInit.{EachBlock}
@@ -42,17 +43,17 @@ abbrev pub FrontTyped : Bodies → Body → Front → Type 0
 FrontTyped bodies b (Stands o) = AllTyped bodies b o.statements × HeadFits (is_local b) o.title.head
 FrontTyped bodies b Nowhere = Unit {0}
 
-pub typed_blocks : (bodies : Bodies) (b : Body) (s : Span) (xs : List Line) (o : Front) → AreTyped bodies b xs → FrontTyped bodies b o → EachBlock (BlockTyped bodies b) (blocks_of o xs (ends s Return))
-typed_blocks bodies b s [] (Stands o) p h = (record { statements = h.0; end = tt; head = h.1 }, tt)
-typed_blocks bodies b s [] Nowhere p h = tt
-typed_blocks bodies b s (Puts st ∷ xs) (Stands o) p h = typed_blocks bodies b s xs (longer (Stands o) st) p.1 (all_typed_more bodies b o.statements st h.0 p.0, h.1)
-typed_blocks bodies b s (Puts st ∷ xs) Nowhere p h = typed_blocks bodies b s xs Nowhere p.1 tt
-typed_blocks bodies b s (Makes x t ∷ xs) o p h = typed_blocks bodies b s xs o p.1 h
-typed_blocks bodies b s (Turns t k ∷ xs) (Stands o) p h = (record { statements = h.0; end = p.0; head = h.1 }, typed_blocks bodies b s xs (fresh k) p.2 (tt, p.1))
-typed_blocks bodies b s (Turns t k ∷ xs) Nowhere p h = typed_blocks bodies b s xs (fresh k) p.2 (tt, p.1)
-typed_blocks bodies b s (Leaves t ∷ xs) (Stands o) p h = (record { statements = h.0; end = p.0; head = h.1 }, typed_blocks bodies b s xs Nowhere p.1 tt)
-typed_blocks bodies b s (Leaves t ∷ xs) Nowhere p h = typed_blocks bodies b s xs Nowhere p.1 tt
-typed_blocks bodies b s (Owns l ys ∷ xs) o p h = typed_blocks bodies b s xs o p h
+pub typed_blocks : (ds : List AdtDecl) (bodies : Bodies) (b : Body) (s : Span) (xs : List Line) (o : Front) → AreTyped ds bodies b xs → FrontTyped bodies b o → EachBlock (BlockTyped bodies b) (blocks_of o xs (ends s Return))
+typed_blocks ds bodies b s [] (Stands o) p h = (record { statements = h.0; end = tt; head = h.1 }, tt)
+typed_blocks ds bodies b s [] Nowhere p h = tt
+typed_blocks ds bodies b s (Puts st ∷ xs) (Stands o) p h = typed_blocks ds bodies b s xs (longer (Stands o) st) p.1 (all_typed_more bodies b o.statements st h.0 p.0, h.1)
+typed_blocks ds bodies b s (Puts st ∷ xs) Nowhere p h = typed_blocks ds bodies b s xs Nowhere p.1 tt
+typed_blocks ds bodies b s (Makes x t ∷ xs) o p h = typed_blocks ds bodies b s xs o p.1 h
+typed_blocks ds bodies b s (Turns t k ∷ xs) (Stands o) p h = (record { statements = h.0; end = p.0; head = h.1 }, typed_blocks ds bodies b s xs (fresh k) p.2 (tt, p.1))
+typed_blocks ds bodies b s (Turns t k ∷ xs) Nowhere p h = typed_blocks ds bodies b s xs (fresh k) p.2 (tt, p.1)
+typed_blocks ds bodies b s (Leaves t ∷ xs) (Stands o) p h = (record { statements = h.0; end = p.0; head = h.1 }, typed_blocks ds bodies b s xs Nowhere p.1 tt)
+typed_blocks ds bodies b s (Leaves t ∷ xs) Nowhere p h = typed_blocks ds bodies b s xs Nowhere p.1 tt
+typed_blocks ds bodies b s (Owns l ys ∷ xs) o p h = typed_blocks ds bodies b s xs o p h
 
 pub has_block : (b : Body) (l : Label) (k : Block) (m : Label) → Leads b l k m → HasBlock b m
 has_block b l k m (on to e p n) = (to, e)

@@ -12,7 +12,7 @@ use Rattle.mir_ir.specs.WellFormed.{Locals, with, parameters, IsTyped}
 use Rattle.type_check.specs.declared.program.Signature.{Signature}
 use Rattle.type_check.specs.declared.program.TypedFunction.{TypedFunction}
 use Rattle.type_check.specs.TypedExprView.{span_of}
-use Rattle.type_check.specs.Plain.{IsScalar}
+use Rattle.runnable.specs.Runs as running
 use Rattle.type_check.specs.WellTyped.{surroundings_of}
 use Rattle.mir_build.specs.Text.{fresh, begun, made, owned}
 use Rattle.mir_build.specs.Lowering.{numbers, counted, paired, all_locals, local_name, entry_title, around_body, whole, LowersTo}
@@ -159,7 +159,7 @@ module _ (owner : List ℕ) (f : TypedFunction) (b : Body) (gone : Initialised) 
 
   module _ (σ : List Signature) (fits : FunctionFitsPlainly δ σ f) where
     runs_from : Laid (Meets [] (parameters b)) (parameters b) l.text (with 0 (parameters b))
-    runs_from = text_laid (surroundings_of δ σ f.signature) false (around_body δ f) f.body l.text l.into f.signature.params (parameters b) (parameters b) scoped fits.body apart
+    runs_from = text_laid (surroundings_of δ σ f.signature) false (around_body δ f) refl f.body l.text l.into f.signature.params (parameters b) (parameters b) scoped fits.body apart
 
     starts : List (Label × Locals)
     starts = (b.entry, parameters b) ∷ runs_from.starts
@@ -196,13 +196,13 @@ module _ (owner : List ℕ) (f : TypedFunction) (b : Body) (gone : Initialised) 
 
   -- ---- types
 
-  module _ (σ : List Signature) (bodies : Bodies) (fits : FunctionFitsPlainly δ σ f) (callees : (n : ℕ) (g : Signature) → slice_get σ n ≡ Some g → Callee bodies n g) (answers : (n : ℕ) (g : Signature) → slice_get σ n ≡ Some g → IsScalar g.answer) where
-    pub lines_typed : AreTyped bodies b l.text
-    lines_typed = text_typed (surroundings_of δ σ f.signature) bodies b callees answers answer_fits false (around_body δ f) f.body l.text l.into f.signature.params
-        (record { scope = scope_fits; scalar_types = fits.params }) fits.body (answer_fits ∙ ap Some (sym fits.of_answer)) text_fits
+  module _ (σ : List Signature) (bodies : Bodies) (decls : bodies.decls ≡ δ) (fits : FunctionFitsPlainly δ σ f) (callees : (n : ℕ) (g : Signature) → slice_get σ n ≡ Some g → Callee bodies n g) (answers : (n : ℕ) (g : Signature) → slice_get σ n ≡ Some g → running.Runs δ g.answer) where
+    pub lines_typed : AreTyped δ bodies b l.text
+    lines_typed = text_typed (surroundings_of δ σ f.signature) bodies decls b callees answers answer_fits false (around_body δ f) refl f.body l.text l.into f.signature.params
+        (record { scope = scope_fits; types_run = fits.params }) fits.body (answer_fits ∙ ap Some (sym fits.of_answer)) text_fits
 
     pub blocks_typed : EachBlock (BlockTyped bodies b) b.blocks
-    blocks_typed = subst (EachBlock (BlockTyped bodies b)) (sym l.blocks) (typed_blocks bodies b (span_of f.body) l.text (fresh (entry_title b.entry)) lines_typed (tt, tt))
+    blocks_typed = subst (EachBlock (BlockTyped bodies b)) (sym l.blocks) (typed_blocks δ bodies b (span_of f.body) l.text (fresh (entry_title b.entry)) lines_typed (tt, tt))
 
     map_length : {A B : Type 0} (g : A → B) (xs : List A) → length (map g xs) ≡ length xs
     map_length g [] = refl

@@ -18,7 +18,7 @@ use Rattle.mir_ir.specs.Body.{block_in}
 use Rattle.mir_ir.specs.WellFormed.{Locals}
 use Rattle.type_check.specs.declared.program.Signature.{Signature}
 use Rattle.type_check.specs.declared.program.TypedFunction.{TypedFunction}
-use Rattle.type_check.specs.Plain.{IsScalar}
+use Rattle.runnable.specs.Runs.{Runs}
 use Rattle.mir_build.specs.Laws.{HeadsAreThere}
 use Rattle.mir_ir.specs.Names.{IsNameIn}
 use Rattle.mir_build.specs.Text.{owned}
@@ -52,8 +52,8 @@ within_locals b y h = by_case (slice_get b.locals y) refl h
     by_case None e g = absurd (true≢false (sym g))
     by_case (Some t) e g = slice_get_within b.locals y t e
 
-module _ (owner : List ℕ) (f : TypedFunction) (b : Body) (gone : Initialised) {δ : List AdtDecl} {τ : List Signature} (l : LowersTo δ τ owner f b gone) (σ : List Signature) (bodies : Bodies) (fits : FunctionFitsPlainly δ σ f)
-    (callees : (n : ℕ) (g : Signature) → slice_get σ n ≡ Some g → Callee bodies n g) (answers : (n : ℕ) (g : Signature) → slice_get σ n ≡ Some g → IsScalar g.answer) where
+module _ (owner : List ℕ) (f : TypedFunction) (b : Body) (gone : Initialised) {δ : List AdtDecl} {τ : List Signature} (l : LowersTo δ τ owner f b gone) (σ : List Signature) (bodies : Bodies) (decls : bodies.decls ≡ δ) (fits : FunctionFitsPlainly δ σ f)
+    (callees : (n : ℕ) (g : Signature) → slice_get σ n ≡ Some g → Callee bodies n g) (answers : (n : ℕ) (g : Signature) → slice_get σ n ≡ Some g → Runs δ g.answer) where
   sets : Label → Locals
   sets = start owner f b gone l σ fits
 
@@ -62,7 +62,7 @@ module _ (owner : List ℕ) (f : TypedFunction) (b : Body) (gone : Initialised) 
   head_free m k h e q = subst (HeadFits (sets m)) q (block_at (BlockFits sets) b.blocks m k (start_fits owner f b gone l σ fits) e).head
 
   head_local : (m : Label) (k : Block) (h : Head) → block_in b.blocks m ≡ Some k → k.head ≡ Some h → HeadFits (is_local b) (Some h)
-  head_local m k h e q = subst (HeadFits (is_local b)) q (block_at (BlockTyped bodies b) b.blocks m k (blocks_typed owner f b gone l σ bodies fits callees answers) e).head
+  head_local m k h e q = subst (HeadFits (is_local b)) q (block_at (BlockTyped bodies b) b.blocks m k (blocks_typed owner f b gone l σ bodies decls fits callees answers) e).head
 
   -- a local of the set, and of the body
   name_in : (set : Locals) (x : Name) → IsLocalIn set x → IsLocalIn (is_local b) x → IsNameIn b set x

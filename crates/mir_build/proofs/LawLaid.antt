@@ -218,7 +218,7 @@ still t x set n h = by_test (x == t) refl
     by_test true e = absurd (true≢false (sym (eq-eqb t x (sym (eqb-true x t e))) ∙ n))
     by_test false e = h
 
-can_take_moves : (ts : List ℕ) (set : Locals) → HoldsAll set ts → ((x : ℕ) → count x ts ≤ 1) → CanTakeAll set (map moved ts)
+pub can_take_moves : (ts : List ℕ) (set : Locals) → HoldsAll set ts → ((x : ℕ) → count x ts ≤ 1) → CanTakeAll set (map moved ts)
 can_take_moves [] set h o = tt
 can_take_moves (t ∷ ts) set h o = (
   h t here,
@@ -226,7 +226,7 @@ can_take_moves (t ∷ ts) set h o = (
 )
 
 -- what is moved is not in the smaller set
-moves_taken : (ts : List ℕ) (set now : Locals) → HasNone set ts → Within set now → Within set (all_taken (map moved ts) now)
+pub moves_taken : (ts : List ℕ) (set now : Locals) → HasNone set ts → Within set now → Within set (all_taken (map moved ts) now)
 moves_taken [] set now n w = w
 moves_taken (t ∷ ts) set now n w = moves_taken ts set (without t now) (λ x g. n x (omega (arith, g))) (kept t set now (n t (count_self t ts)) w)
 

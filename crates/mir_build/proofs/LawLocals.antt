@@ -11,7 +11,7 @@ use Rattle.mir_ir.specs.declared.body.Initialised.{Initialised}
 use Rattle.type_check.specs.declared.program.Signature.{Signature}
 use Rattle.type_check.specs.declared.program.TypedFunction.{TypedFunction}
 use Rattle.type_check.specs.VariableNames.{variable_name, answer_name}
-use Rattle.type_check.specs.Plain.{IsScalar, AllScalar}
+use Rattle.runnable.specs.Runs.{Runs, AllRun}
 use Rattle.mir_build.specs.Laws.{LocalsAreNoVariables}
 use Rattle.mir_ir.specs.Names.{LocalsAreNamed, new_number}
 use Rattle.mir_build.specs.Text.{Line, Puts, Makes, Turns, Leaves, Owns, made}
@@ -150,37 +150,38 @@ numbers_length : (ms : List (ℕ × Ty)) → length (numbers ms) ≡ length ms
 numbers_length [] = refl
 numbers_length (m ∷ ms) = ap suc (numbers_length ms)
 
--- ---- scalar types
+-- ---- types that run
 
--- each of the locals is of a scalar type
-pub record AllOfScalar (ms : List (ℕ × Ty)) : Type 0 where
-  pub scalar : (x : ℕ) (t : Ty) → Has (x, t) ms → IsScalar t
+module _ (ds : List AdtDecl) where
+  -- each of the locals is of a type that runs
+  pub record EachOfRuns (ms : List (ℕ × Ty)) : Type 0 where
+    pub runs : (x : ℕ) (t : Ty) → Has (x, t) ms → Runs ds t
 
-first_scalar : (x : ℕ) (t : Ty) (ms : List (ℕ × Ty)) → IsScalar t → AllOfScalar ms → AllOfScalar ((x, t) ∷ ms)
-first_scalar x t ms h g = record { scalar = λ y u k. by_case y u ((x, t) ∷ ms) k refl }
-  where
-    by_case : (y : ℕ) (u : Ty) (ns : List (ℕ × Ty)) → Has (y, u) ns → ns ≡ (x, t) ∷ ms → IsScalar u
-    by_case y u ns (here {xs = ns'}) e = let r : ◌≡◌ {A = ℕ × Ty} (y, u) (x, t) = cc in let q : u ≡ t = ap (λ (p : ℕ × Ty). p.1) r in subst IsScalar (sym q) h
-    by_case y u ns (there {y = z} {xs = ns'} k) e = let q : ns' ≡ ms = cc in g.scalar y u (subst (λ os. Has (y, u) os) q k)
+  pub first_runs : (x : ℕ) (t : Ty) (ms : List (ℕ × Ty)) → Runs ds t → EachOfRuns ms → EachOfRuns ((x, t) ∷ ms)
+  first_runs x t ms h g = record { runs = λ y u k. by_case y u ((x, t) ∷ ms) k refl }
+    where
+      by_case : (y : ℕ) (u : Ty) (ns : List (ℕ × Ty)) → Has (y, u) ns → ns ≡ (x, t) ∷ ms → Runs ds u
+      by_case y u ns (here {xs = ns'}) e = let r : ◌≡◌ {A = ℕ × Ty} (y, u) (x, t) = cc in let q : u ≡ t = ap (λ (p : ℕ × Ty). p.1) r in subst (Runs ds) (sym q) h
+      by_case y u ns (there {y = z} {xs = ns'} k) e = let q : ns' ≡ ms = cc in g.runs y u (subst (λ os. Has (y, u) os) q k)
 
-scalar-append : (ms ns : List (ℕ × Ty)) → AllOfScalar ms → AllOfScalar ns → AllOfScalar (ms ++ ns)
-scalar-append [] ns h g = g
-scalar-append (m ∷ ms) ns h g = first_scalar m.0 m.1 (ms ++ ns) (h.scalar m.0 m.1 here) (scalar-append ms ns (record { scalar = λ x t k. h.scalar x t (there k) }) g)
+  pub runs-append : (ms ns : List (ℕ × Ty)) → EachOfRuns ms → EachOfRuns ns → EachOfRuns (ms ++ ns)
+  runs-append [] ns h g = g
+  runs-append (m ∷ ms) ns h g = first_runs m.0 m.1 (ms ++ ns) (h.runs m.0 m.1 here) (runs-append ms ns (record { runs = λ x t k. h.runs x t (there k) }) g)
 
-none_scalar : AllOfScalar []
-none_scalar = record { scalar = λ x t h. elim h [ ] }
+  none_runs : EachOfRuns []
+  none_runs = record { runs = λ x t h. elim h [ ] }
 
-params_scalar : (n : ℕ) (ts : List Ty) → AllScalar ts → AllOfScalar (paired n ts)
-params_scalar n [] h = none_scalar
-params_scalar n (t ∷ ts) h = first_scalar n t (paired (n + 1) ts) h.0 (params_scalar (n + 1) ts h.1)
+  pub params_run : (n : ℕ) (ts : List Ty) → AllRun ds ts → EachOfRuns (paired n ts)
+  params_run n [] h = none_runs
+  params_run n (t ∷ ts) h = first_runs n t (paired (n + 1) ts) h.0 (params_run (n + 1) ts h.1)
 
-text_scalar : (bodies : Bodies) (b : Body) (xs : List Line) → AreTyped bodies b xs → AllOfScalar (made xs)
-text_scalar bodies b [] h = none_scalar
-text_scalar bodies b (Puts s ∷ xs) h = text_scalar bodies b xs h.1
-text_scalar bodies b (Makes x t ∷ xs) h = first_scalar x t (made xs) h.0 (text_scalar bodies b xs h.1)
-text_scalar bodies b (Turns t k ∷ xs) h = text_scalar bodies b xs h.2
-text_scalar bodies b (Leaves t ∷ xs) h = text_scalar bodies b xs h.1
-text_scalar bodies b (Owns l ys ∷ xs) h = text_scalar bodies b xs h
+  pub text_runs : (bodies : Bodies) (b : Body) (xs : List Line) → AreTyped ds bodies b xs → EachOfRuns (made xs)
+  text_runs bodies b [] h = none_runs
+  text_runs bodies b (Puts s ∷ xs) h = text_runs bodies b xs h.1
+  text_runs bodies b (Makes x t ∷ xs) h = first_runs x t (made xs) h.0 (text_runs bodies b xs h.1)
+  text_runs bodies b (Turns t k ∷ xs) h = text_runs bodies b xs h.2
+  text_runs bodies b (Leaves t ∷ xs) h = text_runs bodies b xs h.1
+  text_runs bodies b (Owns l ys ∷ xs) h = text_runs bodies b xs h
 
 module _ (owner : List ℕ) (f : TypedFunction) (b : Body) (gone : Initialised) {δ : List AdtDecl} {τ : List Signature} (l : LowersTo δ τ owner f b gone) where
   name_at : (x : ℕ) (n : Name) → slice_get b.names x ≡ Some n → (n ≡ local_name x) × (x < length b.locals)
@@ -207,18 +208,18 @@ module _ (owner : List ℕ) (f : TypedFunction) (b : Body) (gone : Initialised) 
     },
   )
 
-  module _ (σ : List Signature) (bodies : Bodies) (fits : FunctionFitsPlainly δ σ f) (callees : (n : ℕ) (g : Signature) → slice_get σ n ≡ Some g → Callee bodies n g) (answers : (n : ℕ) (g : Signature) → slice_get σ n ≡ Some g → IsScalar g.answer) where
-    all_scalar : AllOfScalar (all_locals f l.text)
-    all_scalar = first_scalar 0 f.signature.answer (paired 1 f.signature.params ++ made l.text) fits.answer
-        (scalar-append (paired 1 f.signature.params) (made l.text) (params_scalar 1 f.signature.params fits.params)
-        (text_scalar bodies b l.text (lines_typed owner f b gone l σ bodies fits callees answers)))
+  module _ (σ : List Signature) (bodies : Bodies) (decls : bodies.decls ≡ δ) (fits : FunctionFitsPlainly δ σ f) (callees : (n : ℕ) (g : Signature) → slice_get σ n ≡ Some g → Callee bodies n g) (answers : (n : ℕ) (g : Signature) → slice_get σ n ≡ Some g → Runs δ g.answer) where
+    all_run : EachOfRuns δ (all_locals f l.text)
+    all_run = first_runs δ 0 f.signature.answer (paired 1 f.signature.params ++ made l.text) fits.answer
+        (runs-append δ (paired 1 f.signature.params) (made l.text) (params_run δ 1 f.signature.params fits.params)
+        (text_runs δ bodies b l.text (lines_typed owner f b gone l σ bodies decls fits callees answers)))
 
     below : (x : ℕ) → Has x (numbers (all_locals f l.text)) → x < length b.locals
     below x h = let w = number_has x (all_locals f l.text) h in slice_get_within b.locals x w.0 ((locals_fit owner f b gone l).fits x w.0 w.1)
 
-    pub types_scalar : (x : ℕ) (t : Ty) → slice_get b.locals x ≡ Some t → IsScalar t
-    types_scalar x t e =
+    pub types_run : (x : ℕ) (t : Ty) → slice_get b.locals x ≡ Some t → Runs δ t
+    types_run x t e =
         let n = each_counts (length b.locals) (numbers (all_locals f l.text)) (numbers_length (all_locals f l.text) ∙ sym l.all) below (locals_once δ τ owner f b gone l) x (slice_get_within b.locals x t e) in
         let w = counted_has x (all_locals f l.text) n in
         let q : w.0 ≡ t = some_same (sym ((locals_fit owner f b gone l).fits x w.0 w.1) ∙ e) in
-        subst IsScalar q (all_scalar.scalar x w.0 w.1)
+        subst (Runs δ) q (all_run.runs x w.0 w.1)

@@ -2,15 +2,17 @@
 use Rattle.std.proofs.Common.{◌≡◌, ◌⊎◌, inl, inr, refl, ap, sym, ◌∙◌, subst, ℕ, ◌+◌, ◌≤◌, ◌==◌, Bool, true, false, List, [], ◌∷◌, ◌++◌, map, drop, length, ◌-◌, Option, Some, None, slice_get, arith, length-append, append-nil, true≢false}
 use Rattle.std.proofs.lemmas.Bool.{eqb-true}
 use Rattle.std.proofs.lemmas.List.{drop_all}
+use Rattle.logic_term.specs.declared.kinds.Ctor.{Ctor}
 use Rattle.logic_term.specs.declared.kinds.Label.{Label}
 use Rattle.logic_term.specs.Ty.{Ty, bool}
 use Rattle.text_core.specs.declared.span.Span.{Span}
 use Rattle.mir_ir.specs.declared.place.Operand.TheVariants.{Copy}
 use Rattle.mir_ir.specs.declared.place.Place.{Place}
 use Rattle.mir_ir.specs.declared.statement.Rvalue.{Rvalue}
-use Rattle.mir_ir.specs.declared.statement.Rvalue.TheVariants.{Use, Binary}
+use Rattle.mir_ir.specs.declared.statement.Rvalue.TheVariants.{Use, Binary, Make}
 use Rattle.mir_ir.specs.declared.terminator.Terminator.{Terminator}
 use Rattle.mir_ir.specs.WellFormed.{Locals, with, without, Within}
+use Rattle.mir_ir.proofs.Taking.{all_taken}
 use Rattle.source_kinds.specs.declared.kinds.BinaryOp.{BinaryOp}
 use Rattle.type_check.specs.TypedExpr.{TypedExpr}
 use Rattle.type_check.specs.WellTyped.{Surroundings, within_loop, EachSpeaks}
@@ -22,7 +24,8 @@ use Rattle.mir_build.proofs.Numbers.{count}
 use Rattle.mir_build.proofs.LawLists.{Has, here, there, has_get, makings-append, count-append, count_self}
 use Rattle.mir_build.proofs.LawNames.{HoldsPlaces, head_fits}
 use Rattle.mir_build.proofs.LawRuns.{with_self, with_more, with_within, kept, Runs, stops, runs-append, Laid, laid_stops, laid_puts, laid_makes, laid_panics, laid_returns, laid_goes, laid-append}
-use Rattle.mir_build.proofs.LawLaid.{weight, Apart, none, before, first, second, left, right, fresh_second, given_up, still, at_most, same_set, forked, divided, parted, Meeting, edge_awaits, met_together, looped, circled, spun, with_all, with_all_more, with_all_has, called, weight_with}
+use Rattle.mir_build.proofs.LawLaid.{weight, Apart, none, before, first, second, left, right, fresh_second, given_up, still, at_most, same_set, forked, divided, parted, Meeting, edge_awaits, met_together, looped, circled, spun, with_all}
+use Rattle.mir_build.proofs.LawLaid.{with_all_more, with_all_has, can_take_moves, moves_taken, called, weight_with}
 use Rattle.mir_build.proofs.Jumps.{innermost_last, deaths, first_dies_last, has_last, has_drop_last}
 use Rattle.mir_build.proofs.TypedShapes.{Takes, of_number, of_bool, of_unit, of_copy, of_minus, of_not, of_widening, of_operation, Asked, truth_asked, number_asked, KeepsTyped, of_typed_body}
 use Rattle.mir_build.proofs.PlainTyping.{IsPlainlyTyped}
@@ -333,6 +336,20 @@ laid_call c Γ s f ts after d T Ts xs p base set sc z a =
     laid-append set (with_all ts set) (with d set) xs _ (p.laid base set sc (left 0 set xs _ z))
     (called c s f d ts after set (with_all ts set) (record { once = λ x. omega (arith, p.counts x, b.once x) }) (with_all_has ts set) (with_all_more ts set))
 
+-- a value is made of what is in temporaries, which are moved
+laid_made : (c : Around) (Γ : List Ty) (s : Span) (k : Ctor) (ts : List ℕ) (Ts : List Ty) (d : ℕ) (T : Ty) (xs : List Line) → PassesSet c Γ ts Ts xs → WritesSet c Γ [] d T (xs ++ puts s d (Make k (map moved ts)) ∷ [])
+laid_made c Γ s k ts Ts d T xs p base set sc z a =
+    let b : Apart set (numbers (made xs)) = only_made set xs _ (behind_first d set _ a) in
+    laid-append set (with_all ts set) (with d set) xs _ (p.laid base set sc (left 0 set xs _ z))
+    (laid_puts _ _ _ _ (can_take_moves ts (with_all ts set) (with_all_has ts set) (λ x. omega (arith, p.counts x, b.once x)))
+    (laid_stops _ _ (with_within d set (all_taken (map moved ts) (with_all ts set)) (moves_taken ts set (with_all ts set) (none set ts (record { once = λ x. omega (arith, p.counts x, b.once x) })) (with_all_more ts set)))))
+
+-- what is at a place is copied
+laid_taken : (c : Around) (Γ : List Ty) (s : Span) (p : Place) (d : ℕ) (T : Ty) (xs : List Line) → NamesIn c Γ p T xs → WritesSet c Γ [] d T (xs ++ puts s d (Use (Copy p)) ∷ [])
+laid_taken c Γ s p d T xs q base set sc z a =
+    let now = q.behind set in
+    laid-append set now (with d set) xs _ (q.laid base set sc (left 0 set xs _ z)) (laid_puts _ _ _ _ (q.there base set sc) (laid_stops _ _ (with_within d set now (q.more set))))
+
 laid_argument : (c : Around) (Γ : List Ty) (t : ℕ) (T U : Ty) (xs : List Line) (ts : List ℕ) (Ts : List Ty) (ys : List Line) → WritesSet c Γ [] t U xs → PassesSet c Γ ts Ts ys → PassesSet c Γ (t ∷ ts) (T ∷ Ts) (made_by t U xs ++ ys)
 laid_argument c Γ t T U xs ts Ts ys p q = record {
   counts = λ x. omega (arith, makings-append x xs ys, q.counts x);
@@ -344,7 +361,7 @@ laid_argument c Γ t T U xs ts Ts ys p q = record {
     first_argument : (t : ℕ) (set : Locals) (us vs : List Line) → Apart set (t ∷ numbers (made (us ++ vs))) → Apart set (t ∷ numbers (made us))
     first_argument t set us vs h = record { once = λ x. omega (arith, makings-append x us vs, h.once x) }
 
-keeps_sets : (σ : Surroundings) → KeepsTyped σ WritesSet NamesIn PassesSet AsksSet
+keeps_sets : (σ : Surroundings) → KeepsTyped σ WritesSet NamesIn NamesIn PassesSet AsksSet
 keeps_sets σ = record {
   put = laid_put;
   made = λ c Γ ts t T xs d U ys p q base set sc z a.
@@ -379,10 +396,15 @@ keeps_sets σ = record {
   temporary = λ c Γ t T xs p. record { behind = with t; fewest = λ set x. omega (arith, weight_with x t set); more = with_more t; there = λ base set sc. with_self t set; laid = λ base set sc z. laid_makes _ _ _ _ _ (p base set sc (without_second 0 t set _ z) (behind_first 0 set _ z)) };
   assigned = λ c Γ s t T p U d V xs e v q. laid_assigned c Γ s t T p U d V xs q;
   updated = λ c Γ s op t u T p U d V xs h e v q. laid_updated c Γ s op t u T p U d V xs q;
+  rooted = λ c Γ p T xs q. q;
+  further = λ c Γ p U n T xs e q. record { behind = q.behind; fewest = q.fewest; more = q.more; there = q.there; laid = q.laid };
+  taken = λ c Γ s p d T xs h q. laid_taken c Γ s p d T xs q;
   no_arguments = λ c Γ. record { counts = λ x. omega arith; laid = λ base set sc a. laid_stops _ _ (same_set set) };
   argument = λ c Γ t T U xs ts Ts ys e p q. laid_argument c Γ t T U xs ts Ts ys p q;
+  constructed = λ c Γ s k ts Ts d T xs h e p. laid_made c Γ s k ts Ts d T xs p;
   called = λ c Γ s f g ts after d T xs e q p. laid_call c Γ s f ts after d T g.params xs p;
 }
 
-pub text_laid : (σ : Surroundings) (i : Bool) (c : Around) (e : TypedExpr) (xs : List Line) → IntoBody c e xs → (Γ : List Ty) (base set : Locals) → Scoped c Γ base set → IsPlainlyTyped (within_loop i σ) Γ e → Apart set (0 ∷ numbers (made xs)) → Laid (Meets c.loops base) set xs (with 0 set)
-text_laid σ i c e xs p Γ base set sc h a = of_typed_body σ WritesSet NamesIn PassesSet AsksSet (keeps_sets σ) i c e xs p Γ h base set sc a a
+pub text_laid : (σ : Surroundings) (i : Bool) (c : Around) → c.types ≡ σ.types → (e : TypedExpr) (xs : List Line) → IntoBody c e xs → (Γ : List Ty) (base set : Locals) → Scoped c Γ base set → IsPlainlyTyped (within_loop i σ) Γ e
+    → Apart set (0 ∷ numbers (made xs)) → Laid (Meets c.loops base) set xs (with 0 set)
+text_laid σ i c o e xs p Γ base set sc h a = of_typed_body σ WritesSet NamesIn NamesIn PassesSet AsksSet (keeps_sets σ) i c o e xs p Γ h base set sc a a

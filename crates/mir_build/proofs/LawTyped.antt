@@ -5,6 +5,7 @@ use Rattle.source_kinds.specs.declared.kinds.BinaryOp.{BinaryOp}
 use Rattle.source_kinds.specs.declared.kinds.BinaryOp.TheVariants.{Add, Sub, Mul, Div, Rem, Eq, Ne, Lt, Le, Gt, Ge}
 use Rattle.source_kinds.specs.declared.kinds.IntKind.{IntKind}
 use Rattle.source_kinds.specs.declared.kinds.IntKind.TheVariants.{I8, I16, I32, I64, Isize}
+use Rattle.logic_term.specs.declared.declaration.AdtDecl.{AdtDecl}
 use Rattle.logic_term.specs.Ty.{Ty, int, bool}
 use Rattle.mir_ir.specs.declared.body.Body.{Body}
 use Rattle.mir_ir.specs.declared.place.Place.{Place}
@@ -12,7 +13,8 @@ use Rattle.mir_ir.specs.declared.terminator.TerminatorKind.{TerminatorKind}
 use Rattle.mir_ir.specs.declared.terminator.TerminatorKind.TheVariants.{Goto, If, Switch, Call, Return, Panic}
 use Rattle.mir_ir.specs.WellFormed.{IsSigned, PlaceHas, OperandHas, OperationHas, StatementIsTyped, CallIsTyped, Locals}
 use Rattle.mir_ir.specs.WellFormed as mir
-use Rattle.type_check.specs.Plain.{IsScalar, AllScalar}
+use Rattle.runnable.specs.Runs.{Runs, AllRun}
+use Rattle.runnable.proofs.RunTypes.{int_runs, bool_runs}
 use Rattle.type_check.specs.WellTyped.{operation_ty, is_signed}
 use Rattle.mir_build.specs.Text.{Line, Puts, Makes, Turns, Leaves, Owns, made}
 use Rattle.mir_build.proofs.LawLists.{Has, here, there, has_left, has_right, made-append}
@@ -61,26 +63,27 @@ signed I64 e = tt
 signed Isize e = tt
 signed _ e = absurd (true≢false (sym e))
 
--- the type of an operation is scalar
-pub operation_scalar : (op : BinaryOp) (s t : Ty) → operation_ty op s ≡ Some t → IsScalar t
-operation_scalar op (int k) t e = by_test _ (some_same e)
-  where
-    by_test : (c : Bool) → (if c then int k else bool) ≡ t → IsScalar t
-    by_test true q = subst IsScalar q tt
-    by_test false q = subst IsScalar q tt
-operation_scalar op bool t e = subst IsScalar (sym (operation_on_bools op t e).1) tt
-operation_scalar op _ t e = absurd (cc)
+-- ---- types that run
 
--- ---- scalar types
+module _ (ds : List AdtDecl) where
+  -- the type of an operation does
+  pub operation_runs : (op : BinaryOp) (s t : Ty) → operation_ty op s ≡ Some t → Runs ds t
+  operation_runs op (int k) t e = by_test _ (some_same e)
+    where
+      by_test : (c : Bool) → (if c then int k else bool) ≡ t → Runs ds t
+      by_test true q = subst (Runs ds) q (int_runs ds k)
+      by_test false q = subst (Runs ds) q (bool_runs ds)
+  operation_runs op bool t e = subst (Runs ds) (sym (operation_on_bools op t e).1) (bool_runs ds)
+  operation_runs op _ t e = absurd (cc)
 
-pub scalar_more : (ts : List Ty) (t : Ty) → AllScalar ts → IsScalar t → AllScalar (ts ++ t ∷ [])
-scalar_more [] t h g = (g, tt)
-scalar_more (u ∷ ts) t h g = (h.0, scalar_more ts t h.1 g)
+  pub runs_more : (ts : List Ty) (t : Ty) → AllRun ds ts → Runs ds t → AllRun ds (ts ++ t ∷ [])
+  runs_more [] t h g = (g, tt)
+  runs_more (u ∷ ts) t h g = (h.0, runs_more ts t h.1 g)
 
-pub scalar_at : (ts : List Ty) (i : ℕ) (t : Ty) → AllScalar ts → slice_get ts i ≡ Some t → IsScalar t
-scalar_at [] i t h e = absurd (cc)
-scalar_at (u ∷ ts) zero t h e = subst IsScalar (some_same e) h.0
-scalar_at (u ∷ ts) (suc i) t h e = scalar_at ts i t h.1 e
+  pub runs_at : (ts : List Ty) (i : ℕ) (t : Ty) → AllRun ds ts → slice_get ts i ≡ Some t → Runs ds t
+  runs_at [] i t h e = absurd (cc)
+  runs_at (u ∷ ts) zero t h e = subst (Runs ds) (some_same e) h.0
+  runs_at (u ∷ ts) (suc i) t h e = runs_at ts i t h.1 e
 
 -- ---- what is typed
 
@@ -97,22 +100,22 @@ EndFits bodies b (Panic cause) = Unit {0}
 abbrev pub is_local : Body → Locals
 is_local b x = is_some (slice_get b.locals x)
 
--- the statements and ends of the text are typed, and what it makes is of a scalar type
-abbrev pub AreTyped : Bodies → Body → List Line → Type 0
-AreTyped bodies b [] = Unit {0}
-AreTyped bodies b (Puts s ∷ xs) = StatementIsTyped bodies b s.kind × AreTyped bodies b xs
-AreTyped bodies b (Makes x t ∷ xs) = IsScalar t × AreTyped bodies b xs
-AreTyped bodies b (Turns t k ∷ xs) = EndFits bodies b t.kind × HeadFits (is_local b) k.head × AreTyped bodies b xs
-AreTyped bodies b (Leaves t ∷ xs) = EndFits bodies b t.kind × AreTyped bodies b xs
-AreTyped bodies b (Owns l ys ∷ xs) = AreTyped bodies b xs
+-- the statements and ends of the text are typed, and what it makes is of a type that runs
+abbrev pub AreTyped : List AdtDecl → Bodies → Body → List Line → Type 0
+AreTyped ds bodies b [] = Unit {0}
+AreTyped ds bodies b (Puts s ∷ xs) = StatementIsTyped bodies b s.kind × AreTyped ds bodies b xs
+AreTyped ds bodies b (Makes x t ∷ xs) = Runs ds t × AreTyped ds bodies b xs
+AreTyped ds bodies b (Turns t k ∷ xs) = EndFits bodies b t.kind × HeadFits (is_local b) k.head × AreTyped ds bodies b xs
+AreTyped ds bodies b (Leaves t ∷ xs) = EndFits bodies b t.kind × AreTyped ds bodies b xs
+AreTyped ds bodies b (Owns l ys ∷ xs) = AreTyped ds bodies b xs
 
-pub typed-append : (bodies : Bodies) (b : Body) (xs ys : List Line) → AreTyped bodies b xs → AreTyped bodies b ys → AreTyped bodies b (xs ++ ys)
-typed-append bodies b [] ys p q = q
-typed-append bodies b (Puts s ∷ xs) ys p q = (p.0, typed-append bodies b xs ys p.1 q)
-typed-append bodies b (Makes x t ∷ xs) ys p q = (p.0, typed-append bodies b xs ys p.1 q)
-typed-append bodies b (Turns t k ∷ xs) ys p q = (p.0, p.1, typed-append bodies b xs ys p.2 q)
-typed-append bodies b (Leaves t ∷ xs) ys p q = (p.0, typed-append bodies b xs ys p.1 q)
-typed-append bodies b (Owns l zs ∷ xs) ys p q = typed-append bodies b xs ys p q
+pub typed-append : (ds : List AdtDecl) (bodies : Bodies) (b : Body) (xs ys : List Line) → AreTyped ds bodies b xs → AreTyped ds bodies b ys → AreTyped ds bodies b (xs ++ ys)
+typed-append ds bodies b [] ys p q = q
+typed-append ds bodies b (Puts s ∷ xs) ys p q = (p.0, typed-append ds bodies b xs ys p.1 q)
+typed-append ds bodies b (Makes x t ∷ xs) ys p q = (p.0, typed-append ds bodies b xs ys p.1 q)
+typed-append ds bodies b (Turns t k ∷ xs) ys p q = (p.0, p.1, typed-append ds bodies b xs ys p.2 q)
+typed-append ds bodies b (Leaves t ∷ xs) ys p q = (p.0, typed-append ds bodies b xs ys p.1 q)
+typed-append ds bodies b (Owns l zs ∷ xs) ys p q = typed-append ds bodies b xs ys p q
 
 -- locals with their types
 pub record MadeFits (b : Body) (ms : List (ℕ × Ty)) : Type 0 where

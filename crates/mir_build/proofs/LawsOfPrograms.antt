@@ -9,14 +9,15 @@ use Rattle.mir_ir.specs.declared.body.Initialised.{Initialised}
 use Rattle.mir_ir.specs.WellFormed.{IsTyped, Labelling, MeetsMoveRows}
 use Rattle.type_check.specs.declared.program.Signature.{Signature}
 use Rattle.type_check.specs.declared.program.TypedFunction.{TypedFunction}
-use Rattle.type_check.specs.Plain.{IsScalar, FunctionIsPlain, EachIsPlain}
+use Rattle.runnable.specs.Plain.{FunctionIsPlain, EachIsPlain}
+use Rattle.runnable.specs.Runs.{Runs}
 use Rattle.type_check.specs.WellTyped.{FunctionFits, EachFits, signatures}
 use Rattle.mir_build.specs.Laws.{Lowers, HeadsAreThere, BodiesAreSound, BodiesAreLaidOut, LocalsHaveNames, LocalsHaveBuiltTypes, HeadsSpeakOfWhatIsThere, ContractsSpeakOfParameters}
 use Rattle.mir_build.specs.Lowering.{counted, whole, HasContract, LowersTo, EachLowersTo, no_functions, and_function}
 use Rattle.mir_build.proofs.LawTyped.{ScopeFits}
 use Rattle.mir_build.proofs.LawTypes.{Callee}
 use Rattle.mir_build.proofs.LawFunction.{answer_fits, scope_fits, body_typed, body_laid_out, start}
-use Rattle.mir_build.proofs.LawLocals.{locals_are_named, types_scalar}
+use Rattle.mir_build.proofs.LawLocals.{locals_are_named, types_run}
 use Rattle.mir_build.proofs.LawContracts.{contract_speaks}
 use Rattle.mir_build.proofs.LawHeads.{labelled, heads_speak}
 use Rattle.mir_ir.specs.declared.body.Bodies.{Bodies}
@@ -75,10 +76,10 @@ fits_at ds σ [] h n f e = absurd (cc)
 fits_at ds σ (g ∷ fs) h zero f e = subst (FunctionFits ds σ) (some_same e) h.0
 fits_at ds σ (g ∷ fs) h (suc n) f e = fits_at ds σ fs h.1 n f e
 
-plain_at : (fs : List TypedFunction) → EachIsPlain fs → (n : ℕ) (f : TypedFunction) → slice_get fs n ≡ Some f → FunctionIsPlain f
-plain_at [] h n f e = absurd (cc)
-plain_at (g ∷ fs) h zero f e = subst FunctionIsPlain (some_same e) h.0
-plain_at (g ∷ fs) h (suc n) f e = plain_at fs h.1 n f e
+plain_at : (ds : List AdtDecl) (fs : List TypedFunction) → EachIsPlain ds fs → (n : ℕ) (f : TypedFunction) → slice_get fs n ≡ Some f → FunctionIsPlain ds f
+plain_at ds [] h n f e = absurd (cc)
+plain_at ds (g ∷ fs) h zero f e = subst (FunctionIsPlain ds) (some_same e) h.0
+plain_at ds (g ∷ fs) h (suc n) f e = plain_at ds fs h.1 n f e
 
 signature_at : (fs : List TypedFunction) (n : ℕ) (g : Signature) → slice_get (signatures fs) n ≡ Some g → (f : TypedFunction) × (slice_get fs n ≡ Some f) × (f.signature ≡ g)
 signature_at [] n g e = absurd (cc)
@@ -124,10 +125,10 @@ module _ (table : List (List ℕ)) (ds : List AdtDecl) (fs : List TypedFunction)
         answer = answer_fits v.1.owner w.0 v.0 v.1.gone u ∙ ap (λ (s : Signature). Some s.answer) w.2;
       }
 
-  answer_scalar : (n : ℕ) (g : Signature) → slice_get (signatures fs) n ≡ Some g → IsScalar g.answer
-  answer_scalar n g e =
+  answer_runs : (n : ℕ) (g : Signature) → slice_get (signatures fs) n ≡ Some g → Runs ds g.answer
+  answer_runs n g e =
       let w = signature_at fs n g e in
-      subst (λ (s : Signature). IsScalar s.answer) w.2 (plain_at fs l.plain n w.0 w.1).answer
+      subst (λ (s : Signature). Runs ds s.answer) w.2 (plain_at ds fs l.plain n w.0 w.1).answer
 
   module _ (n : ℕ) (b : Body) (is_body : slice_get bs.bodies n ≡ Some b) where
     found : (f : TypedFunction) × FunctionAt ds (signatures fs) 0 fs bs.bodies cs.of gones n f b
@@ -140,19 +141,19 @@ module _ (table : List (List ℕ)) (ds : List AdtDecl) (fs : List TypedFunction)
     fit = fits_at ds (signatures fs) fs l.fits n found.0 found.1.is_function
 
     plainly : FunctionFitsPlainly ds (signatures fs) found.0
-    plainly = fits_plainly ds (signatures fs) found.0 (plain_at fs l.plain n found.0 found.1.is_function) fit
+    plainly = fits_plainly ds (signatures fs) found.0 (plain_at ds fs l.plain n found.0 found.1.is_function) fit
 
     typed : IsTyped bs b
-    typed = body_typed found.1.owner found.0 b found.1.gone found.1.lowers (signatures fs) bs plainly callee answer_scalar
+    typed = body_typed found.1.owner found.0 b found.1.gone found.1.lowers (signatures fs) bs l.lowers.decls plainly callee answer_runs
 
     abbrev labels : IsLabelled b (start found.1.owner found.0 b found.1.gone found.1.lowers (signatures fs) plainly)
-    labels = labelled found.1.owner found.0 b found.1.gone found.1.lowers (signatures fs) bs plainly callee answer_scalar
+    labels = labelled found.1.owner found.0 b found.1.gone found.1.lowers (signatures fs) bs l.lowers.decls plainly callee answer_runs
 
     initialised : (at : Labelling) × MeetsMoveRows b at × HeadsAreThere b found.1.gone at
     initialised = (
       labels.at,
       labels.moves,
-      heads_speak found.1.owner found.0 b found.1.gone found.1.lowers (signatures fs) bs plainly callee answer_scalar,
+      heads_speak found.1.owner found.0 b found.1.gone found.1.lowers (signatures fs) bs l.lowers.decls plainly callee answer_runs,
     )
 
 -- ---- the laws
@@ -175,7 +176,7 @@ locals_have_names table ds fs bs cs gones l n b e =
 pub locals_have_built_types : LocalsHaveBuiltTypes
 locals_have_built_types table ds fs bs cs gones l n b e x t h =
     let w = found table ds fs bs cs gones l n b e in
-    types_scalar w.1.owner w.0 b w.1.gone w.1.lowers (signatures fs) bs (plainly table ds fs bs cs gones l n b e) (callee table ds fs bs cs gones l) (answer_scalar table ds fs bs cs gones l) x t h
+    types_run w.1.owner w.0 b w.1.gone w.1.lowers (signatures fs) bs l.lowers.decls (plainly table ds fs bs cs gones l n b e) (callee table ds fs bs cs gones l) (answer_runs table ds fs bs cs gones l) x t h
 
 module _ (table : List (List ℕ)) (ds : List AdtDecl) (fs : List TypedFunction) (bs : Bodies) (cs : Contracts) (gones : List Initialised) (l : Lowers table ds fs bs cs gones) where
   -- the labelling of the body that is found; any where there is none

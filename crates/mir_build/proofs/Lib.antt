@@ -29,6 +29,7 @@ pub mod Numbers
 pub mod OneBody
 pub mod OneText
 pub mod Order
+pub mod PartSorts
 pub mod Parts
 pub mod PlainTyping
 pub mod Rows

@@ -9,7 +9,7 @@ use Rattle.source_kinds.specs.declared.kinds.IntKind.{IntKind}
 use Rattle.logic_term.specs.Matches.{bindings}
 use Rattle.logic_term.specs.declared.pattern.Binding.{Binding}
 use Rattle.logic_term.specs.Pattern.{Pat, wild, bound, literal, truth, shape}
-use Rattle.logic_term.specs.Ty.{Ty, int, bool, tuple, no_tys}
+use Rattle.logic_term.specs.Ty.{Ty, int, bool}
 use Rattle.mir_ir.specs.declared.place.Place.{Place}
 use Rattle.mir_ir.specs.declared.statement.Rvalue.TheVariants.{Use}
 use Rattle.pat_check.specs.Decision.{Decision, leaf, switch, if_truth, if_literal}
@@ -17,7 +17,7 @@ use Rattle.pat_check.specs.Flat.{all_among, all_flat, both_sides, first_row, fla
 use Rattle.pat_check.specs.Known.{among}
 use Rattle.pat_check.specs.Tree.{IsTreeOf}
 use Rattle.pat_check.specs.Typed.{fields_in, AllPats, Covers}
-use Rattle.pat_check.proofs.FlatTrees.{IsFlatType, flat_patterns_typed, flat_tree_covers, tree_is_flat}
+use Rattle.pat_check.proofs.FlatTrees.{flat_patterns_typed, flat_tree_covers, tree_is_flat}
 use Rattle.pat_types.specs.declared.names.BoundName.{BoundName}
 use Rattle.type_check.specs.FirstBad.{bad_in, bad_in_arms, match_refusal}
 use Rattle.type_check.specs.Scalars.{is_scalar}
@@ -27,12 +27,14 @@ use Rattle.type_check.specs.TypedExpr.{TypedExpr, TypedArms, matched, no_arms, w
 use Rattle.type_check.specs.TypedExprView.{arms_of, arms_size, patterns_of, ty_of, typed_size}
 use Rattle.type_check.specs.WellTyped.{unit}
 use Rattle.type_check.specs.declared.typed.TypedArm.{TypedArm}
-use Rattle.mir_build.specs.Taking.{is_copied, taken}
+use Rattle.type_check.proofs.FlatMatches.{scalar_is_flat}
+use Rattle.runnable.specs.CopyDecided.{is_copied}
+use Rattle.mir_build.specs.Taking.{taken}
 use Rattle.mir_build.specs.Text.{Line, Makes}
 use Rattle.mir_build.specs.declared.builder.BodyText.{BodyText}
 use Rattle.mir_build.specs.Built.{written}
 use Rattle.mir_build.specs.Lowering.{Around, binds, dies_in, is_place, met, puts, whole}
-use Rattle.mir_build.specs.Numbered.{arm_into, arm_labels, arm_locals, behind_label, behind_labels, bound_locals, bound_text, into, labels, locals, place_of, temporary_count, tests_of, tests_text, text_before}
+use Rattle.mir_build.specs.Numbered.{arm_into, arm_labels, arm_locals, behind_label, met_labels, bound_locals, bound_text, into, labels, locals, place_of, temporary_count, tests_of, tests_text, text_before}
 use Rattle.mir_build.specs.Reach.{reach, reach_in_arms}
 use Rattle.mir_build.specs.Bindings.{all_die}
 use Rattle.mir_build.proofs.Bindings.{one_more}
@@ -40,12 +42,6 @@ use Rattle.mir_build.proofs.Runs.{written-append}
 use Rattle.mir_build.proofs.Accepted.{first_none, second_none, flat_match}
 
 -- ---- the tree
-
-scalar_is_flat : (t : Ty) → is_scalar t ≡ true → IsFlatType t
-scalar_is_flat (int k) q = tt
-scalar_is_flat bool q = tt
-scalar_is_flat (tuple no_tys) q = tt
-scalar_is_flat _ q = absurd (cc)
 
 there : (m : Option Decision) → is_some m ≡ true → (D : Decision) × (m ≡ Some D)
 there None e = absurd (cc)
@@ -276,7 +272,7 @@ more_labels s e as' l h = omega (arith, h)
 -- what is written for the place of a value, for the tests behind it, and at last for the block behind them
 pub written_match : (s : Span) (e : TypedExpr) (as' : TypedArms) (c c1 c2 : Around) (l l1 l2 d : ℕ) (T U : Ty) (p : Place) (to : Option Label) (D : Decision) (x x1 x2 x3 x4 : BodyText)
     → p ≡ place_of c.scope (length x.locals) e → x1 ≡ written (text_before e c l (length x.locals)) x → l1 ≡ l + labels e → length x1.locals ≡ length x.locals + temporary_count (is_place e) + locals e → c1 ≡ c
-    → T ≡ ty_of e → flat_tree T (patterns_of as') ≡ Some D → to ≡ behind_label (all_arms_leave as') l1 → l2 ≡ l1 + behind_labels (all_arms_leave as') → x2 ≡ x1
+    → T ≡ ty_of e → flat_tree T (patterns_of as') ≡ Some D → to ≡ behind_label (all_arms_leave as') l1 → l2 ≡ l1 + met_labels (all_arms_leave as') → x2 ≡ x1
     → U ≡ ty_of e → x3 ≡ written (tests_text c1 s U p to (arm_labels as') (arm_locals as') (arm_into as' c1 s U p d) D l2 (length x2.locals)) x2 → c2 ≡ c1 → x4 ≡ written (met c2 s to) x3
     → x4 ≡ written (into (matched unit s e as') c l (length x.locals) d) x
 written_match s e as' c c1 c2 l l1 l2 d T U p to D x x1 x2 x3 x4 place before labels' locals' around' ty tree behind next same ty' tests around'' end =
@@ -287,10 +283,10 @@ written_match s e as' c c1 c2 l l1 l2 d T U p to D x x1 x2 x3 x4 place before la
     let q = place_of c.scope t e in
     let m = l + labels e in
     let label' : to ≡ behind_label all m = behind ∙ ap (behind_label all) labels' in
-    let first : l2 ≡ m + behind_labels all = next ∙ ap (λ k. k + behind_labels all) labels' in
+    let first : l2 ≡ m + met_labels all = next ∙ ap (λ k. k + met_labels all) labels' in
     let many : length x2.locals ≡ u = ap (λ (y : BodyText). length y.locals) same ∙ locals' in
     let by_tree : Some D ≡ flat_tree V (patterns_of as') = sym tree ∙ ap (λ Z. flat_tree Z (patterns_of as')) ty in
-    let lines : Option Decision → List Line = λ o. tests_of c s V q (behind_label all m) (arm_labels as') (arm_locals as') (arm_into as' c s V q d) o (m + behind_labels all) u in
+    let lines : Option Decision → List Line = λ o. tests_of c s V q (behind_label all m) (arm_labels as') (arm_locals as') (arm_into as' c s V q d) o (m + met_labels all) u in
     let start = text_before e c l t in
     let third : x3 ≡ written (lines (flat_tree V (patterns_of as'))) (written start x) =
     tests ∙ (λ i. written (tests_text (around' i) s (ty' i) (place i) (label' i) (arm_labels as') (arm_locals as') (arm_into as' (around' i) s (ty' i) (place i) d) D (first i) (many i)) ((same ∙ before) i))

@@ -18,12 +18,16 @@ use Rattle.type_check.specs.Leaves.{all_arms_leave}
 use Rattle.type_check.specs.TypedExpr.{TypedExpr, TypedStmts, TypedExprs, TypedArms, variable, part, block}
 use Rattle.type_check.specs.TypedExprView.{ty_of}
 use Rattle.mir_build.specs.declared.around.Loop.{Loop}
-use Rattle.mir_build.specs.Taking.{is_copied, taken}
+use Rattle.runnable.specs.CopyDecided.{is_copied}
+use Rattle.mir_build.specs.Taking.{taken}
 use Rattle.mir_build.specs.Text.{Line, Makes, Turns, Leaves, Owns, made}
 use Rattle.mir_build.specs.Lowering.{Around, binds, looping, at, at_head, head_of, whole, part_place, puts, puts_at, put_unit, moved, ends, innermost, dies_in, die_from, numbers, lazily, test, fork, split, met, labels_at}
-use Rattle.mir_build.specs.Lowering.{Into, of_integer, of_truth, of_variable, of_negative, of_denied, of_cast, of_binary, of_lazy, of_assign, of_update, of_call, of_make, of_part, of_block, of_branch, of_choice, of_leaving_choice, of_repeat, of_panics, of_returned, of_endless, of_until_break, of_break_off, of_go_on}
-use Rattle.mir_build.specs.Lowering.{Rest, of_done, of_last, of_leaving, of_bind, of_run, Args, of_none, of_more, PlaceOf, of_name, of_part_place, of_temporary, of_matched, Tests, at_arm, on_truth, on_literal, ArmInto, of_unbound, of_bound, of_later, is_place, IntoBody, of_outermost, of_other, is_block, named, named_place, named_tests, named_arm, named_rest, named_args, named_body}
-use Rattle.mir_build.specs.Numbered.{kind_of, behind_label, behind_labels, tests_take, tests_text, tests_of, arm_labels, arm_locals, arm_into, no_loop, loop_at, place_of, temporary_count, place_text, place_before, text_before, if_text, into, rest, args, body_text, labels, locals, temporaries, label, variable_place}
+use Rattle.mir_build.specs.Lowering.{Into, of_integer, of_truth, of_variable, of_negative, of_denied, of_cast, of_binary, of_lazy, of_assign, of_update, of_call, of_make, of_part, of_block, of_branch, of_choice, of_leaving_choice, of_repeat}
+use Rattle.mir_build.specs.Lowering.{of_panics, of_returned, of_endless, of_until_break, of_break_off, of_go_on}
+use Rattle.mir_build.specs.Lowering.{Rest, of_done, of_last, of_leaving, of_bind, of_run, Args, of_none, of_more, PlaceOf, of_name, of_part_place, of_temporary, of_matched, Tests, at_arm, on_truth, on_literal, ArmInto, of_unbound, of_bound}
+use Rattle.mir_build.specs.Lowering.{of_later, is_place, IntoBody, of_outermost, of_other, is_block, named, named_place, named_tests, named_arm, named_rest, named_args, named_body}
+use Rattle.mir_build.specs.Numbered.{kind_of, behind_label, met_labels, numbered_tests, tests_take, tests_of, arm_labels, arm_locals, arm_into, no_loop, loop_at, place_of, temporary_count, place_text, place_before, text_before, if_text, into, rest}
+use Rattle.mir_build.specs.Numbered.{args, body_text, labels, locals, temporaries, label, variable_place}
 use Rattle.mir_build.proofs.Numbers.{makings}
 use Rattle.mir_build.proofs.Fills.{fills, target_fills, tests_filled, arms_filled, numbers_of}
 use Rattle.mir_build.proofs.Order.{InOrder}
@@ -63,9 +67,6 @@ behind_is None all m ns q h = ap (λ b. behind_label b m) (sym q)
 behind_is (Some l) all m ns q h = (λ i. Some (label (h.0 i))) ∙ ap (λ b. behind_label b m) (sym q)
 
 -- the locals behind those of the tests
-abbrev numbered_tests : Around → Span → Ty → Place → TypedArms → Option Label → Decision → ℕ → ℕ → ℕ → List Line
-numbered_tests c s T x as' to D d l t = tests_text c s T x to (arm_labels as') (arm_locals as') (arm_into as' c s T x d) D l t
-
 behind_tests : (c : Around) (s : Span) (T : Ty) (x : Place) (as' : TypedArms) (to : Option Label) (D : Decision) (d l t : ℕ) (xs ys : List Line) → xs ≡ numbered_tests c s T x as' to D d l t → InOrder t (xs ++ ys)
     → InOrder (t + tests_take 1 (arm_locals as') D) ys
 behind_tests c s T x as' to D d l t xs ys q h =
@@ -151,16 +152,16 @@ mutual
       let y = one_text c b d vs q (m + 2) u (from_left (m + 2) (named q) (named r) k.2) (order_left u vs _ g) in
       let z = one_text c b' d ws r (m + 2 + labels b) (u + locals b) (labels_behind q (m + 2) (named r) k.2) (behind b c (m + 2) u d vs _ y g) in
       (λ i. Makes (o.0 i) (ty_of a) ∷ (x i ++ fork c s (o.0 i) (label (k.0 i)) (label (k.1 i)) (y i) (z i))) ∙ ap (λ both. if_text both a b b' s d c l t) (sym k')
-  one_text c e d xs (of_matched {s = s} {e = a} {as' = as'} {p = z} D to {xs = us} {ys = vs} q w p r) l t n o =
+  one_text c e d xs (of_matched {s = s} {e = a} {as' = as'} {p = z} D to {xs = us} {ys = vs} f q w p r) l t n o =
       let m = l + labels a in
       let all = all_arms_leave as' in
       let k = labels_behind_place p l (labels_at to ++ named_tests r) n in
       let y = one_place c a z us p l t (from_left l (named_place p) _ n) (order_left t us _ o) in
       let u = t + temporary_count (is_place a) + locals a in
       let g = behind_is to all m (named_tests r) w k in
-      let x = one_tests c s (ty_of a) z as' to D d vs r (m + behind_labels all) u (labels_behind_met to all m (named_tests r) w k) (order_left u vs _ (behind_target a c l t us _ y.1 o)) in
+      let x = one_tests c s (ty_of a) z as' to D d vs r (m + met_labels all) u (labels_behind_met to all m (named_tests r) w k) (order_left u vs _ (behind_target a c l t us _ y.1 o)) in
       (λ i. y.1 i ++ (x i ++ met c s to))
-      ∙ (λ i. text_before a c l t ++ (tests_of c s (ty_of a) (y.0 i) (g i) (arm_labels as') (arm_locals as') (arm_into as' c s (ty_of a) (y.0 i) d) (sym q i) (m + behind_labels all) u ++ met c s (g i)))
+      ∙ (λ i. text_before a c l t ++ (tests_of c s (ty_of a) (y.0 i) (g i) (arm_labels as') (arm_locals as') (arm_into as' c s (ty_of a) (y.0 i) d) (sym q i) (m + met_labels all) u ++ met c s (g i)))
   one_text c e d xs (of_repeat {s = s} {is = is} {e = a} {b = b} {t = t'} {u = u'} head body after fs {xs = us} {ys = vs} g p q) l t n o =
       let f = formulas_are is fs g in
       let k = three l head.0 body.0 after.0 (named p ++ named q) n in

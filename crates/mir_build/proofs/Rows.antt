@@ -18,17 +18,21 @@ use Rattle.pat_check.proofs.FlatTrees.{flat_decision}
 use Rattle.pat_types.specs.declared.names.BoundName.{BoundName}
 use Rattle.pat_types.specs.Laws.{BindsAlone}
 use Rattle.type_check.specs.declared.assertion.Assertion.{Assertion}
-use Rattle.type_check.specs.TypedExpr.{TypedExpr, TypedStmts, TypedExprs, integer, truth, variable, negative, denied, cast, binary, lazy, assign, update, call, make, part, block, branch, choice, matched, repeat, panics, returned, endless, until_break, break_off, go_on, done, last, leaving, bind, run, none, more, TypedArms, no_arms, with_arm}
+use Rattle.type_check.specs.TypedExpr.{TypedExpr, TypedStmts, TypedExprs, integer, truth, variable, negative, denied, cast, binary, lazy, assign, update, call, make, part, block, branch, choice, matched, repeat, panics, returned, endless}
+use Rattle.type_check.specs.TypedExpr.{until_break, break_off, go_on, done, last, leaving, bind, run, none, more, TypedArms, no_arms, with_arm}
 use Rattle.type_check.specs.Leaves.{leaves, all_arms_leave}
 use Rattle.type_check.specs.TypedExprView.{ty_of, patterns_of}
 use Rattle.type_check.specs.FirstBad.{bad_among, bad_in, bad_in_arms, bad_in_stmts, bad_in_exprs, match_refusal}
 use Rattle.type_check.specs.Answers.{or_else}
 use Rattle.type_check.specs.WellTyped.{Surroundings, within_loop, IsWellTyped, StatementsFit, ArgumentsFit, PartsFit, ArmsFit}
 use Rattle.mir_build.specs.Lowering.{is_place, Around, accepted, whole, binds, looping, innermost, Into, of_integer, of_truth, of_variable, of_negative, of_denied, of_cast, of_binary, of_lazy, of_assign, of_update, of_call, of_make, of_part, of_block, of_branch}
-use Rattle.mir_build.specs.Lowering.{of_choice, of_leaving_choice, of_repeat, of_panics, of_returned, of_endless, of_until_break, of_break_off, of_go_on, Rest, of_done, of_last, of_leaving, of_bind, of_run, Args, of_none, of_more, PlaceOf, of_name, of_part_place, of_temporary, of_matched, Tests, at_arm, on_truth, on_literal, ArmInto, of_unbound, of_bound, of_later, met, labels_at, IntoBody, of_outermost, of_other, named, named_place, named_tests, named_arm, named_rest, named_args, named_body}
+use Rattle.mir_build.specs.Lowering.{of_choice, of_leaving_choice, of_repeat, of_panics, of_returned, of_endless, of_until_break, of_break_off, of_go_on, Rest, of_done, of_last, of_leaving, of_bind, of_run, Args, of_none, of_more, PlaceOf, of_name}
+use Rattle.mir_build.specs.Lowering.{of_part_place, of_temporary, of_matched, Tests, at_arm, on_truth, on_literal, ArmInto, of_unbound, of_bound, of_later, met, labels_at, IntoBody, of_outermost, of_other, named, named_place, named_tests, named_arm}
+use Rattle.mir_build.specs.Lowering.{named_rest, named_args, named_body}
 use Rattle.mir_build.specs.Text.{Line, Makes}
-use Rattle.mir_build.specs.Numbered.{kind_of, behind_label, behind_labels, tests_take, tests_text, tests_of, arm_labels, arm_locals, arm_into, temporary_count, no_loop, loop_at, place_of, text_before, place_before, choice_labels, choice_text, formula_of, into, rest, args, body_text, labels, labels_in, locals, temporaries, label, variable_place, between}
-use Rattle.mir_build.proofs.Accepted.{first_none, second_none, flat_match, all_accepted}
+use Rattle.mir_build.specs.Numbered.{kind_of, behind_label, met_labels, tests_take, tests_text, tests_of, arm_labels, arm_locals, arm_into, temporary_count, no_loop, loop_at, place_of, text_before, place_before, choice_labels, choice_text}
+use Rattle.mir_build.specs.Numbered.{formula_of, into, rest, args, body_text, labels, labels_in, locals, temporaries, label, variable_place, between}
+use Rattle.mir_build.proofs.Accepted.{first_none, second_none, both_hold, flat_match, all_accepted}
 use Rattle.mir_build.proofs.Fills.{numbers_of}
 use Rattle.mir_build.proofs.Following.{From, from_both, then_two, then_three}
 use Rattle.mir_build.proofs.Taking.{takes}
@@ -161,10 +165,6 @@ no_second u (literal t k w) y z ys h f = cc
 no_second u (truth_pattern t b) y z ys h f = cc
 no_second u (shape t k ps) y z ys h f = cc
 
-first_flat : (a b : Bool) → a && b ≡ true → (a ≡ true) × (b ≡ true)
-first_flat true b e = (refl, e)
-first_flat false b e = absurd (cc)
-
 tests_lower : (c : Around) (s : Span) (T : Ty) (x : Place) (as' : TypedArms) (to : Option Label) (ps : List Pat) (D : Decision) (d : ℕ) → FlatDecision T ps D
     → ((n : ℕ) (q : Pat) → slice_get ps n ≡ Some q → (l t : ℕ) → ArmLowered c s T x as' n d l (arm_into as' c s T x d n l t)) → (l t : ℕ)
     → TestsLowered c s T x as' to D d l (tests_text c s T x to (arm_labels as') (arm_locals as') (arm_into as' c s T x d) D l t)
@@ -187,22 +187,23 @@ is_behind : (all : Bool) (m : ℕ) → all ≡ is_none (behind_label all m)
 is_behind true m = refl
 is_behind false m = refl
 
-then_behind : (all : Bool) (m : ℕ) (ns : List ℕ) → From (m + behind_labels all) ns → From m (labels_at (behind_label all m) ++ ns)
+then_behind : (all : Bool) (m : ℕ) (ns : List ℕ) → From (m + met_labels all) ns → From m (labels_at (behind_label all m) ++ ns)
 then_behind true m ns h = from_both m (m + 0) [] ns (omega arith) tt h
 then_behind false m ns h = from_both m (m + 1) (m ∷ []) ns (omega arith) (refl, tt) h
 
 -- a match, by its place and its tests
-matched_by : (ty : Ty) (s : Span) (e : TypedExpr) (as' : TypedArms) (c : Around) (l t d : ℕ) (D : Decision) (zs : List Line) → flat_tree (ty_of e) (patterns_of as') ≡ Some D → PlaceLowered c e (place_of c.scope t e) l (text_before e c l t)
+matched_by : (ty : Ty) (s : Span) (e : TypedExpr) (as' : TypedArms) (c : Around) (l t d : ℕ) (D : Decision) (zs : List Line) → all_flat (ty_of e) (patterns_of as') ≡ true → flat_tree (ty_of e) (patterns_of as') ≡ Some D
+    → PlaceLowered c e (place_of c.scope t e) l (text_before e c l t)
     → zs ≡ tests_of c s (ty_of e) (place_of c.scope t e) (behind_label (all_arms_leave as') (l + labels e)) (arm_labels as') (arm_locals as')
-    (arm_into as' c s (ty_of e) (place_of c.scope t e) d) (Some D) (l + labels e + behind_labels (all_arms_leave as')) (t + temporary_count (is_place e) + locals e)
-    → TestsLowered c s (ty_of e) (place_of c.scope t e) as' (behind_label (all_arms_leave as') (l + labels e)) D d (l + labels e + behind_labels (all_arms_leave as')) zs → Lowered c (matched ty s e as') d l (into (matched ty s e as') c l t d)
-matched_by ty s e as' c l t d D zs q p r z =
+    (arm_into as' c s (ty_of e) (place_of c.scope t e) d) (Some D) (l + labels e + met_labels (all_arms_leave as')) (t + temporary_count (is_place e) + locals e)
+    → TestsLowered c s (ty_of e) (place_of c.scope t e) as' (behind_label (all_arms_leave as') (l + labels e)) D d (l + labels e + met_labels (all_arms_leave as')) zs → Lowered c (matched ty s e as') d l (into (matched ty s e as') c l t d)
+matched_by ty s e as' c l t d D zs f q p r z =
     let m = l + labels e in
     let all = all_arms_leave as' in
     let to = behind_label all m in
-    let row : Lowered c (matched ty s e as') d l _ = (of_matched D to q (is_behind all m) p.0 z.0, labels_then_place p.0 l (labels_at to ++ named_tests z.0) p.1 (then_behind all m (named_tests z.0) z.1)) in
+    let row : Lowered c (matched ty s e as') d l _ = (of_matched D to f q (is_behind all m) p.0 z.0, labels_then_place p.0 l (labels_at to ++ named_tests z.0) p.1 (then_behind all m (named_tests z.0) z.1)) in
     subst (λ xs. Lowered c (matched ty s e as') d l xs)
-    (λ i. text_before e c l t ++ ((r ∙ (λ j. tests_of c s (ty_of e) (place_of c.scope t e) to (arm_labels as') (arm_locals as') (arm_into as' c s (ty_of e) (place_of c.scope t e) d) (sym q j) (m + behind_labels all) (t + temporary_count (is_place e) + locals e))) i ++ met c s to))
+    (λ i. text_before e c l t ++ ((r ∙ (λ j. tests_of c s (ty_of e) (place_of c.scope t e) to (arm_labels as') (arm_locals as') (arm_into as' c s (ty_of e) (place_of c.scope t e) d) (sym q j) (m + met_labels all) (t + temporary_count (is_place e) + locals e))) i ++ met c s to))
     row
 
 mutual
@@ -273,8 +274,8 @@ mutual
       let p = target e c l t (places σ Γ e c l t h o w.0 first) (lowers σ Γ e c l (t + 1) t h o w.0 first) in
       let arms = arms_lower σ Γ (ty_of e) ty as' c s (place_of c.scope t e) d h o w.1 (first_none (bad_in_arms as') (match_refusal s (ty_of e) (patterns_of as')) rest) f.flat in
       let tree = flat_decision (ty_of e) (patterns_of as') f.tree f.flat f.is_tree in
-      let q = tests_lower c s (ty_of e) (place_of c.scope t e) as' (behind_label (all_arms_leave as') (l + labels e)) (patterns_of as') f.tree d tree arms (l + labels e + behind_labels (all_arms_leave as')) (t + temporary_count (is_place e) + locals e) in
-      matched_by ty s e as' c l t d f.tree _ f.is_tree p refl q
+      let q = tests_lower c s (ty_of e) (place_of c.scope t e) as' (behind_label (all_arms_leave as') (l + labels e)) (patterns_of as') f.tree d tree arms (l + labels e + met_labels (all_arms_leave as')) (t + temporary_count (is_place e) + locals e) in
+      matched_by ty s e as' c l t d f.tree _ f.flat f.is_tree p refl q
   lowers σ Γ (repeat ty s is e b) c l t d h o w g =
       let inside = looping c (label l) (label (l + 2)) in
       let u = t + 1 + locals e in
@@ -328,10 +329,10 @@ mutual
       (of_unbound p.0, p.1)
   arms_lower σ Γ u ty (with_arm r (y ∷ []) a as') c s x d h o w g f zero q e l t =
       let p = lowers σ (Γ ++ y.ty ∷ []) a (binds c t) l (t + 1) d (one_more Γ c.scope y.ty (whole t) h) o w.2 (first_none (bad_in a) (bad_in_arms as') g) in
-      (of_bound t (own_type u r y w.0.alone (first_flat (is_flat u r) (all_flat u (patterns_of as')) f).0) (takes c.types u x) p.0, p.1)
-  arms_lower σ Γ u ty (with_arm r (y ∷ z ∷ ys) a as') c s x d h o w g f zero q e l t = absurd (no_second u r y z ys w.0.alone (first_flat (is_flat u r) (all_flat u (patterns_of as')) f).0)
+      (of_bound t (own_type u r y w.0.alone (both_hold (is_flat u r) (all_flat u (patterns_of as')) f).0) (takes c.types u x) p.0, p.1)
+  arms_lower σ Γ u ty (with_arm r (y ∷ z ∷ ys) a as') c s x d h o w g f zero q e l t = absurd (no_second u r y z ys w.0.alone (both_hold (is_flat u r) (all_flat u (patterns_of as')) f).0)
   arms_lower σ Γ u ty (with_arm r ys a as') c s x d h o w g f (suc n) q e l t =
-      let p = arms_lower σ Γ u ty as' c s x d h o w.3 (second_none (bad_in a) (bad_in_arms as') g) (first_flat (is_flat u r) (all_flat u (patterns_of as')) f).1 n q e l t in
+      let p = arms_lower σ Γ u ty as' c s x d h o w.3 (second_none (bad_in a) (bad_in_arms as') g) (both_hold (is_flat u r) (all_flat u (patterns_of as')) f).1 n q e l t in
       (of_later p.0, p.1)
 
   arguments : (σ : Surroundings) (Γ : List Ty) (es : TypedExprs) (c : Around) (l t : ℕ) (ts : List Ty) → IsFor Γ c.scope → HasLoop σ c → ArgumentsFit σ Γ es ts → bad_in_exprs es ≡ None → ArgsLowered c es (temporaries es t) l (args es c l t)

@@ -13,8 +13,10 @@ use Rattle.mir_ir.specs.declared.terminator.TerminatorKind.TheVariants.{Goto}
 use Rattle.mir_build.specs.Text.{Line, Leaves}
 use Rattle.std.specs.Prelude.{is_none}
 use Rattle.mir_build.specs.Lowering.{Around, binds, ends, lazily, met, Into, of_integer, of_truth, of_variable, of_negative, of_denied, of_cast, of_binary, of_lazy, of_assign, of_update, of_call, of_make, of_part, of_block}
-use Rattle.mir_build.specs.Lowering.{of_branch, of_choice, of_leaving_choice, of_repeat, of_panics, of_returned, of_endless, of_until_break, of_break_off, of_go_on, Rest, of_done, of_last, of_leaving, of_bind, of_run, Args, of_none, of_more, PlaceOf, of_name, of_part_place, of_temporary, of_matched, Tests, at_arm, on_truth, on_literal, ArmInto, of_unbound, of_bound, of_later, labels_at, IntoBody, of_outermost, of_other, named, named_place, named_tests, named_arm, named_rest, named_args}
-use Rattle.mir_build.specs.Numbered.{choice_labels, behind_labels, tests_take, match_takes, labels, labels_of, labels_in, arm_labels}
+use Rattle.mir_build.specs.Lowering.{of_branch, of_choice, of_leaving_choice, of_repeat, of_panics, of_returned, of_endless, of_until_break, of_break_off, of_go_on, Rest, of_done, of_last, of_leaving, of_bind, of_run, Args, of_none, of_more}
+use Rattle.mir_build.specs.Lowering.{PlaceOf, of_name, of_part_place, of_temporary, of_matched, Tests, at_arm, on_truth, on_literal, ArmInto, of_unbound, of_bound, of_later, labels_at, IntoBody, of_outermost, of_other, named, named_place}
+use Rattle.mir_build.specs.Lowering.{named_tests, named_arm, named_rest, named_args}
+use Rattle.mir_build.specs.Numbered.{choice_labels, met_labels, tests_take, match_takes, labels, labels_of, labels_in, arm_labels}
 use Rattle.mir_build.proofs.Following.{From, from_right, from_both}
 use Rattle.mir_build.proofs.Jumps.{deaths, no_deaths_turn}
 use Rattle.mir_build.proofs.Numbers.{turns, turns-append, no_turns}
@@ -30,7 +32,7 @@ abbrev Counts : ℕ → List ℕ → List Line → Type 0
 Counts n ls xs = (length ls ≡ n) × (turns xs ≡ n)
 
 -- of the block behind a match
-counts_met : (c : Around) (s : Span) (to : Option Label) → Counts (behind_labels (is_none to)) (labels_at to) (met c s to)
+counts_met : (c : Around) (s : Span) (to : Option Label) → Counts (met_labels (is_none to)) (labels_at to) (met c s to)
 counts_met c s None = (refl, refl)
 counts_met c s (Some l) = (refl, refl)
 
@@ -90,8 +92,8 @@ mutual
       let y = counts c _ _ _ q in
       let z = counts c _ _ _ r in
       (omega (arith, two, length-append (named p) (yes'.0 ∷ no'.0 ∷ (named q ++ named r)), length-append (named q) (named r), x.0, y.0, z.0), simp turns-append (omega (arith, two, x.1, y.1, z.1)))
-  counts c e d xs (of_matched {s = s} {as' = as'} D to {ys = vs} q l p r) =
-      let behind : behind_labels (all_arms_leave as') ≡ behind_labels (is_none to) = ap behind_labels l in
+  counts c e d xs (of_matched {s = s} {as' = as'} D to {ys = vs} f q l p r) =
+      let behind : met_labels (all_arms_leave as') ≡ met_labels (is_none to) = ap met_labels l in
       let by_tree = ap (match_takes 2 (arm_labels as')) q in
       let x = place_counts c _ _ _ p in
       let y = tests_counts c _ _ _ _ _ _ _ _ r in
@@ -173,10 +175,10 @@ pub labels_then_args : {c : Around} {es : TypedExprs} {ts : List ℕ} {xs : List
 labels_then_args {c} {es} {ts} {xs} p l ns h k = from_both l (l + labels_in es) (named_args p) ns (omega (arith, (args_counts c es ts xs p).0)) h k
 
 -- those of the block behind a match
-pub labels_behind_met : (to : Option Label) (all : Bool) (m : ℕ) (ns : List ℕ) → all ≡ is_none to → From m (labels_at to ++ ns) → From (m + behind_labels all) ns
-labels_behind_met to all m ns l h = from_right m (m + behind_labels all) (labels_at to) ns (omega (arith, ap behind_labels l, length_at to)) h
+pub labels_behind_met : (to : Option Label) (all : Bool) (m : ℕ) (ns : List ℕ) → all ≡ is_none to → From m (labels_at to ++ ns) → From (m + met_labels all) ns
+labels_behind_met to all m ns l h = from_right m (m + met_labels all) (labels_at to) ns (omega (arith, ap met_labels l, length_at to)) h
   where
-    length_at : (to : Option Label) → length (labels_at to) ≡ behind_labels (is_none to)
+    length_at : (to : Option Label) → length (labels_at to) ≡ met_labels (is_none to)
     length_at None = refl
     length_at (Some k) = refl
 

@@ -5,7 +5,8 @@ use Rattle.std.proofs.lemmas.Option.{slice_get_within}
 use Rattle.logic_term.specs.Ty.{Ty}
 use Rattle.pat_types.specs.declared.names.BoundName.{BoundName}
 use Rattle.type_check.specs.declared.typed.TypedStmt.{TypedStmt}
-use Rattle.type_check.specs.TypedExpr.{TypedExpr, TypedStmts, TypedExprs, integer, truth, variable, negative, denied, cast, binary, lazy, assign, update, call, make, part, block, branch, choice, matched, repeat, panics, returned, endless, until_break, break_off, go_on, done, last, leaving, bind, run, none, more, TypedArms, no_arms, with_arm}
+use Rattle.type_check.specs.TypedExpr.{TypedExpr, TypedStmts, TypedExprs, integer, truth, variable, negative, denied, cast, binary, lazy, assign, update, call, make, part, block, branch, choice, matched, repeat, panics, returned, endless}
+use Rattle.type_check.specs.TypedExpr.{until_break, break_off, go_on, done, last, leaving, bind, run, none, more, TypedArms, no_arms, with_arm}
 use Rattle.type_check.specs.TypedExprView.{ty_of, stmt_of, stmts_of}
 use Rattle.type_check.specs.WellTyped.{Surroundings, within_loop, IsWellTyped, StatementsFit, ArgumentsFit, PartsFit, ArmsFit, tys_bound}
 use Rattle.mir_build.specs.Lowering.{Around, whole}

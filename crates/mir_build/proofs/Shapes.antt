@@ -14,7 +14,8 @@ use Rattle.type_check.specs.TypedExpr.{TypedExpr, TypedStmts, TypedExprs, TypedA
 use Rattle.mir_build.specs.declared.around.Loop.{Loop}
 use Rattle.mir_build.specs.Text.{Line, Puts, Makes, Leaves}
 use Rattle.mir_build.specs.Lowering.{Around, Formula, binds, looping, innermost, ends, dies_in, test, fork, split, met, calls, turning, spinning, circling, returning, lazily, Into, of_integer, of_truth, of_variable, of_negative, of_denied, of_cast, of_binary, of_lazy, of_assign}
-use Rattle.mir_build.specs.Lowering.{of_update, of_call, of_make, of_part, of_block, of_branch, of_choice, of_leaving_choice, of_repeat, of_panics, of_returned, of_endless, of_until_break, of_break_off, of_go_on, Rest, of_done, of_last, of_leaving, of_bind, of_run, Args, of_none, of_more, PlaceOf, of_name, of_part_place, of_temporary, of_matched, Tests, at_arm, on_truth, on_literal, ArmInto, of_unbound, of_bound, of_later, IntoBody, of_outermost, of_other}
+use Rattle.mir_build.specs.Lowering.{of_update, of_call, of_make, of_part, of_block, of_branch, of_choice, of_leaving_choice, of_repeat, of_panics, of_returned, of_endless, of_until_break, of_break_off, of_go_on, Rest, of_done, of_last, of_leaving}
+use Rattle.mir_build.specs.Lowering.{of_bind, of_run, Args, of_none, of_more, PlaceOf, of_name, of_part_place, of_temporary, of_matched, Tests, at_arm, on_truth, on_literal, ArmInto, of_unbound, of_bound, of_later, IntoBody, of_outermost, of_other}
 use Rattle.mir_build.proofs.Jumps.{deaths, first_dies_last}
 
 -- the property P holds of what a shape makes where it holds of its parts; Q is one of texts whose edge to the block of the label, if there is one, is still to
@@ -89,7 +90,7 @@ module _ (P : Around → List Line → Type 0) (Q : Around → Option Label → 
         made_then c _ _ us _ (of_text c _ _ us p) (keeps.tested c s t yes' no' after vs ws (of_text c _ _ vs q) (of_text c _ _ ws r))
     of_text c e d xs (of_leaving_choice {s = s} {t = t} yes' no' {xs = us} {ys = vs} {zs = ws} n p q r) =
         made_then c _ _ us _ (of_text c _ _ us p) (keeps.forked c s t yes' no' vs ws (of_text c _ _ vs q) (of_text c _ _ ws r))
-    of_text c e d xs (of_matched {s = s} D to {xs = us} {ys = vs} q l p r) = keeps.join c us _ (of_place c _ _ us p) (keeps.meeting c s to vs (of_tests c s _ _ _ to D d vs r))
+    of_text c e d xs (of_matched {s = s} D to {xs = us} {ys = vs} f q l p r) = keeps.join c us _ (of_place c _ _ us p) (keeps.meeting c s to vs (of_tests c s _ _ _ to D d vs r))
     of_text c e d xs (of_repeat {s = s} {t = t} {u = u} head body after fs {xs = us} {ys = vs} g p q) =
         keeps.turned c s head body after fs t _ us u _ vs _ (of_text (looping c head after) _ _ us p) (of_text (looping c head after) _ _ vs q) (one c _)
     of_text c e d xs (of_panics {s = s} {k = k}) = keeps.panicked c s k

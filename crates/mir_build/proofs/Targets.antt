@@ -7,7 +7,8 @@ use Rattle.mir_ir.specs.declared.statement.Rvalue.TheVariants.{Use}
 use Rattle.type_check.specs.FirstBad.{bad_in}
 use Rattle.type_check.specs.TypedExpr.{TypedExpr, variable, part}
 use Rattle.type_check.specs.TypedExprView.{ty_of, span_of, typed_size}
-use Rattle.mir_build.specs.Taking.{is_copied, taken}
+use Rattle.runnable.specs.CopyDecided.{is_copied}
+use Rattle.mir_build.specs.Taking.{taken}
 use Rattle.mir_build.specs.Text.{Makes}
 use Rattle.mir_build.specs.Lowering.{Around, part_place, is_place, puts}
 use Rattle.mir_build.specs.Numbered.{place_of, temporary_count, text_before, labels, locals, into}

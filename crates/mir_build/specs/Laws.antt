@@ -20,7 +20,8 @@ use Rattle.mir_ir.specs.WellFormed.{AreSound, Labelling, MeetsMoveRows}
 use Rattle.type_check.specs.declared.program.TypedFunction.{TypedFunction}
 use Rattle.type_check.specs.declared.program.TypedProgram.{TypedProgram}
 use Rattle.type_check.specs.VariableNames.{variable_name, answer_name}
-use Rattle.type_check.specs.Plain.{IsScalar, EachIsPlain}
+use Rattle.runnable.specs.Plain.{EachIsPlain}
+use Rattle.runnable.specs.Runs.{Runs}
 use Rattle.type_check.specs.WellTyped.{EachFits, signatures}
 use Rattle.mir_build.specs.Lowering.{LowerTo, HasMoreBlocks}
 use Rattle.mir_ir.specs.declared.body.Bodies.{Bodies}
@@ -59,7 +60,7 @@ BlocksAreCounted = (table : List (List ℕ)) (ds : List AdtDecl) (p : TypedProgr
 pub record Lowers (table : List (List ℕ)) (ds : List AdtDecl) (fs : List TypedFunction) (bs : Bodies) (cs : Contracts) (gones : List Initialised) : Type 0 where
   pub lowers : LowerTo table ds fs bs cs gones
   pub fits : EachFits ds (signatures fs) fs
-  pub plain : EachIsPlain fs
+  pub plain : EachIsPlain ds fs
 
 abbrev pub BodiesAreSound : Type 0
 BodiesAreSound = (table : List (List ℕ)) (ds : List AdtDecl) (fs : List TypedFunction) (bs : Bodies) (cs : Contracts) (gones : List Initialised) → Lowers table ds fs bs cs gones → AreSound bs
@@ -72,7 +73,7 @@ LocalsHaveNames = (table : List (List ℕ)) (ds : List AdtDecl) (fs : List Typed
 
 abbrev pub LocalsHaveBuiltTypes : Type 0
 LocalsHaveBuiltTypes = (table : List (List ℕ)) (ds : List AdtDecl) (fs : List TypedFunction) (bs : Bodies) (cs : Contracts) (gones : List Initialised) → Lowers table ds fs bs cs gones
-    → (n : ℕ) (b : Body) → slice_get bs.bodies n ≡ Some b → (x : ℕ) (t : Ty) → slice_get b.locals x ≡ Some t → IsScalar t
+    → (n : ℕ) (b : Body) → slice_get bs.bodies n ≡ Some b → (x : ℕ) (t : Ty) → slice_get b.locals x ≡ Some t → Runs ds t
 
 -- there are labellings that meet the rows of moves and by which heads speak of what is there
 abbrev pub HeadsSpeakOfWhatIsThere : Type 0

@@ -28,7 +28,7 @@ use Rattle.type_check.specs.declared.program.ClauseKind.{ClauseKind}
 use Rattle.type_check.specs.declared.program.ClauseKind.TheVariants.{Requires, Ensures}
 use Rattle.rs_types.specs.Copied.{IsCopy}
 use Rattle.pat_check.specs.Decision.{Decision, leaf, if_truth, if_literal}
-use Rattle.pat_check.specs.Flat.{flat_tree}
+use Rattle.pat_check.specs.Flat.{all_flat, flat_tree}
 use Rattle.pat_types.specs.declared.names.BoundName.{BoundName}
 use Rattle.source_kinds.specs.Range.{fits}
 use Rattle.mir_ir.specs.declared.place.Lit.{Lit}
@@ -60,7 +60,8 @@ use Rattle.type_check.specs.declared.program.TypedFunction.{TypedFunction}
 use Rattle.type_check.specs.declared.program.TypedProgram.{TypedProgram}
 use Rattle.mir_build.specs.declared.around.Loop.{Loop}
 use Rattle.mir_build.specs.declared.lowered.Lowered.{Lowered}
-use Rattle.type_check.specs.TypedExpr.{TypedExpr, TypedStmts, TypedExprs, integer, variable, negative, denied, cast, binary, lazy, assign, update, call, make, part, block, branch, choice, matched, repeat, panics, returned, endless, until_break, break_off, go_on, done, last, leaving, bind, run, none, more, TypedArms, with_arm}
+use Rattle.type_check.specs.TypedExpr.{TypedExpr, TypedStmts, TypedExprs, integer, variable, negative, denied, cast, binary, lazy, assign, update, call, make, part, block, branch, choice, matched, repeat, panics, returned, endless, until_break}
+use Rattle.type_check.specs.TypedExpr.{break_off, go_on, done, last, leaving, bind, run, none, more, TypedArms, with_arm}
 use Rattle.type_check.specs.Leaves.{leaves, all_arms_leave}
 use Rattle.type_check.specs.TypedExpr as typed
 use Rattle.type_check.specs.TypedExprView.{ty_of, span_of, patterns_of}
@@ -284,8 +285,8 @@ mutual
     of_leaving_choice : {c : Around} {ty : Ty} {s : Span} {e a b : TypedExpr} {d t : ℕ} (yes' no' : Label) {xs ys zs : List Line} → leaves a && leaves b ≡ true → Into c e t xs → Into c a d ys → Into c b d zs
         → Into c (choice ty s e a b) d (made_by t (ty_of e) xs ++ fork c s t yes' no' ys zs)
     -- the arms are tried by the tree of their patterns, and meet behind it
-    of_matched : {c : Around} {ty : Ty} {s : Span} {e : TypedExpr} {as' : TypedArms} {d : ℕ} {p : Place} (D : Decision) (to : Option Label) {xs ys : List Line} → flat_tree (ty_of e) (patterns_of as') ≡ Some D → all_arms_leave as' ≡ is_none to
-        → PlaceOf c e p xs → Tests c s (ty_of e) p as' to D d ys → Into c (matched ty s e as') d (xs ++ (ys ++ met c s to))
+    of_matched : {c : Around} {ty : Ty} {s : Span} {e : TypedExpr} {as' : TypedArms} {d : ℕ} {p : Place} (D : Decision) (to : Option Label) {xs ys : List Line} → all_flat (ty_of e) (patterns_of as') ≡ true → flat_tree (ty_of e) (patterns_of as') ≡ Some D
+        → all_arms_leave as' ≡ is_none to → PlaceOf c e p xs → Tests c s (ty_of e) p as' to D d ys → Into c (matched ty s e as') d (xs ++ (ys ++ met c s to))
     of_repeat : {c : Around} {ty : Ty} {s : Span} {is : List Assertion} {e b : TypedExpr} {d t u : ℕ} (head body after : Label) (fs : List Formula) {xs ys : List Line}
         → is ≡ map accepted fs → Into (looping c head after) e t xs → Into (looping c head after) b u ys
         → Into c (repeat ty s is e b) d (turning c s head body after fs t (ty_of e) xs u (ty_of b) ys (put_unit s d ∷ []))
@@ -374,7 +375,7 @@ abbrev mutual
   named (of_branch yes' no' after p q) = named p ++ yes'.0 ∷ no'.0 ∷ after.0 ∷ named q
   named (of_choice yes' no' after n p q r) = named p ++ yes'.0 ∷ no'.0 ∷ after.0 ∷ (named q ++ named r)
   named (of_leaving_choice yes' no' n p q r) = named p ++ yes'.0 ∷ no'.0 ∷ (named q ++ named r)
-  named (of_matched D to q l p r) = named_place p ++ (labels_at to ++ named_tests r)
+  named (of_matched D to f q l p r) = named_place p ++ (labels_at to ++ named_tests r)
   named (of_repeat head body after fs g p q) = head.0 ∷ body.0 ∷ after.0 ∷ (named p ++ named q)
   named of_panics = []
   named (of_returned p) = named p

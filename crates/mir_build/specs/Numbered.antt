@@ -19,14 +19,16 @@ use Rattle.mir_ir.specs.declared.terminator.Callee.TheVariants.{Function}
 use Rattle.mir_ir.specs.declared.terminator.TerminatorKind.TheVariants.{Goto, If, Call, Return, Panic}
 use Rattle.type_check.specs.declared.assertion.Assertion.{Assertion}
 use Rattle.type_check.specs.declared.assertion.Assertion.TheVariants.{Good, Bad}
-use Rattle.type_check.specs.TypedExpr.{TypedExpr, TypedStmts, TypedExprs, integer, truth, variable, negative, denied, cast, binary, lazy, assign, update, call, make, part, block, branch, choice, matched, repeat, panics, returned, endless, until_break, break_off, go_on, done, last, leaving, bind, run, none, more, TypedArms, no_arms, with_arm}
+use Rattle.type_check.specs.TypedExpr.{TypedExpr, TypedStmts, TypedExprs, integer, truth, variable, negative, denied, cast, binary, lazy, assign, update, call, make, part, block, branch, choice, matched, repeat, panics, returned, endless}
+use Rattle.type_check.specs.TypedExpr.{until_break, break_off, go_on, done, last, leaving, bind, run, none, more, TypedArms, no_arms, with_arm}
 use Rattle.type_check.specs.Leaves.{leaves, all_arms_leave}
 use Rattle.type_check.specs.TypedExprView.{ty_of, patterns_of}
 use Rattle.pat_check.specs.Decision.{Decision, leaf, switch, if_truth, if_literal}
 use Rattle.pat_check.specs.Flat.{flat_tree}
 use Rattle.pat_types.specs.declared.names.BoundName.{BoundName}
 use Rattle.mir_build.specs.declared.around.Loop.{Loop}
-use Rattle.mir_build.specs.Taking.{is_copied, taken}
+use Rattle.runnable.specs.CopyDecided.{is_copied}
+use Rattle.mir_build.specs.Taking.{taken}
 use Rattle.mir_build.specs.Text.{Line, Makes, Turns, Leaves, Owns}
 use Rattle.mir_build.specs.Lowering.{Around, Formula, binds, looping, at, at_head, head_of, whole, part_place, puts, puts_at, constant, put_unit, moved, ends, dies_in, die_from, lazily, test, fork, split, met, is_place}
 
@@ -96,9 +98,9 @@ choice_text false c s t m ys zs = test c s t (label m) (label (m + 1)) (label (m
 -- ---- `match`
 
 -- the block behind the arms, unless all of them leave
-abbrev pub behind_labels : Bool → ℕ
-behind_labels true = 0
-behind_labels false = 1
+abbrev pub met_labels : Bool → ℕ
+met_labels true = 0
+met_labels false = 1
 
 abbrev pub behind_label : Bool → ℕ → Option Label
 behind_label true l = None
@@ -167,7 +169,7 @@ abbrev mutual
   labels (block ty s ss) = labels_of ss
   labels (branch ty s e a) = labels e + 3 + labels a
   labels (choice ty s e a b) = labels e + choice_labels (leaves a && leaves b) + labels a + labels b
-  labels (matched ty s e as') = labels e + behind_labels (all_arms_leave as') + match_takes 2 (arm_labels as') (flat_tree (ty_of e) (patterns_of as'))
+  labels (matched ty s e as') = labels e + met_labels (all_arms_leave as') + match_takes 2 (arm_labels as') (flat_tree (ty_of e) (patterns_of as'))
   labels (repeat ty s is e b) = 3 + labels e + labels b
   labels (panics ty s k) = 0
   labels (returned ty s e) = labels e
@@ -288,7 +290,7 @@ abbrev mutual
       let m = l + labels e in
       let both = all_arms_leave as' in
       place_text (is_place e) t (ty_of e) (place_before e c l t) (into e c l (t + 1) t)
-      ++ (tests_of c s (ty_of e) (place_of c.scope t e) (behind_label both m) (arm_labels as') (arm_locals as') (arm_into as' c s (ty_of e) (place_of c.scope t e) d) (flat_tree (ty_of e) (patterns_of as')) (m + behind_labels both) (t + temporary_count (is_place e) + locals e)
+      ++ (tests_of c s (ty_of e) (place_of c.scope t e) (behind_label both m) (arm_labels as') (arm_locals as') (arm_into as' c s (ty_of e) (place_of c.scope t e) d) (flat_tree (ty_of e) (patterns_of as')) (m + met_labels both) (t + temporary_count (is_place e) + locals e)
       ++ met c s (behind_label both m))
   into (repeat ty s is e b) c l t d =
       let inside = looping c (label l) (label (l + 2)) in
@@ -342,6 +344,10 @@ if_text both e a b s d c l t =
     let n = m + choice_labels both in
     let u = t + 1 + locals e in
     Makes t (ty_of e) ∷ (into e c l (t + 1) t ++ choice_text both c s t m (into a c n u d) (into b c (n + labels a) (u + locals a) d))
+
+-- the text of the tests by the tree, at whose leaves arms are
+abbrev pub numbered_tests : Around → Span → Ty → Place → TypedArms → Option Label → Decision → ℕ → ℕ → ℕ → List Line
+numbered_tests c s T x as' to D d l t = tests_text c s T x to (arm_labels as') (arm_locals as') (arm_into as' c s T x d) D l t
 
 -- the text of a loop with the head from its condition to the end of its body
 abbrev pub loop_text : TypedExpr → TypedExpr → Span → Around → ℕ → ℕ → ℕ → List Line

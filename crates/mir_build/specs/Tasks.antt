@@ -15,7 +15,8 @@ use Rattle.mir_build.specs.declared.task.Behind.{Behind}
 use Rattle.mir_build.specs.declared.task.Behind.TheVariants as behind
 use Rattle.mir_build.specs.declared.task.Task.{Task}
 use Rattle.mir_build.specs.declared.task.Task.TheVariants.{Lower, Finish}
-use Rattle.mir_build.specs.Taking.{is_copied, taken}
+use Rattle.runnable.specs.CopyDecided.{is_copied}
+use Rattle.mir_build.specs.Taking.{taken}
 use Rattle.mir_build.specs.Text.{Line, Makes}
 use Rattle.mir_build.specs.Lowering.{Around, part_place, puts, puts_at, put_unit, moved, lazily}
 use Rattle.mir_build.specs.Numbered.{label, place_of, labels, locals, into}

@@ -17,7 +17,7 @@ pub fn lowered_bodies_are_sound()
 {}
 
 /// Each end of a block leads on, out of loops or into one at its head, or back to the head of a loop around it. No two locals
-/// have one name, and all are of scalar types.
+/// have one name, and all are of types that run.
 pub fn lowered_bodies_are_laid_out()
     ensures laid_out { BodiesAreLaidOut }
     ensures named { LocalsHaveNames }

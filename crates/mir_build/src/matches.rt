@@ -12,11 +12,12 @@ ghost use Rattle.type_check.specs.Scalars.{is_scalar};
 ghost use Rattle.type_check.specs.TypedExpr.{matched};
 ghost use Rattle.type_check.specs.TypedExprView.{ty_of, arms_of, patterns_of};
 ghost use Rattle.type_check.specs.WellTyped.{unit};
-ghost use Rattle.mir_build.specs.Taking.{is_copied, taken};
+ghost use Rattle.mir_build.specs.Taking.{taken};
+ghost use Rattle.runnable.specs.CopyDecided.{is_copied};
 ghost use Rattle.mir_build.specs.Text.{Makes, Turns};
 ghost use Rattle.mir_build.specs.Lowering.{moved, ends, at, binds, dies_in, edge_to, is_place, met, puts};
 ghost use Rattle.mir_build.specs.Numbered.{into, label, labels, locals, place_of, text_before, temporary_count};
-ghost use Rattle.mir_build.specs.Numbered.{behind_label, behind_labels, literal_rvalue, tests_take, tests_text, tested_by, arm_labels, arm_locals, arm_into};
+ghost use Rattle.mir_build.specs.Numbered.{behind_label, met_labels, literal_rvalue, tests_take, tests_text, tested_by, arm_labels, arm_locals, arm_into};
 ghost use Rattle.mir_build.specs.Reach.{reach, reach_in_arms};
 ghost use Rattle.mir_build.specs.Built.{written, around};
 ghost use Rattle.mir_build.specs.declared.stop.Stop.TheVariants.{Blocks};
@@ -51,8 +52,8 @@ fn tree_of(alloc: Global, ty: &Ty, arms: &[TypedArm]) -> Result<Decision, NoMemo
 /// The label behind the arms, unless all of them leave.
 fn take_behind(b: &mut Builder, arms: &[TypedArm]) -> Result<Option<Label>, Stop>
     ensures label { IfOk result (λ after. after ≡ behind_label (all_arms_leave (arms_of arms.now)) b.old.labels) }
-    ensures labels { OnOk result (b.new.labels ≡ b.old.labels + behind_labels (all_arms_leave (arms_of arms.now))) }
-    ensures limit { IfErr result (λ stop. stop ≡ Blocks → 4096 < b.old.labels + behind_labels (all_arms_leave (arms_of arms.now))) }
+    ensures labels { OnOk result (b.new.labels ≡ b.old.labels + met_labels (all_arms_leave (arms_of arms.now))) }
+    ensures limit { IfErr result (λ stop. stop ≡ Blocks → 4096 < b.old.labels + met_labels (all_arms_leave (arms_of arms.now))) }
     ensures most { OnOk result (b.old.labels ≤ 4096 → b.new.labels ≤ 4096) }
     ensures text { b.new.text ≡ b.old.text }
 {

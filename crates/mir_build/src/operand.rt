@@ -7,7 +7,8 @@ ghost use Rattle.mir_build.specs.Lowering.{is_place};
 ghost use Rattle.mir_build.specs.Numbered.{into, kind_of, labels, locals};
 ghost use Rattle.mir_build.specs.Reach.{reach};
 ghost use Rattle.mir_build.specs.Built.{written, around};
-ghost use Rattle.mir_build.specs.Taking.{is_copied, taken};
+ghost use Rattle.mir_build.specs.Taking.{taken};
+ghost use Rattle.runnable.specs.CopyDecided.{is_copied};
 ghost use Rattle.mir_build.specs.Tasks.{to_do, tasks_text, tasks_labels, tasks_locals, tasks_size, tasks_reach, tasks_bad, tasks_weight};
 ghost use Rattle.mir_build.specs.declared.task.Task.TheVariants.{Lower, Finish};
 ghost use Rattle.mir_build.specs.declared.stop.Stop.TheVariants.{Blocks};
@@ -78,7 +79,7 @@ pub(crate) fn push_left<'a>(
 }
 
 /// Whether the type is `Copy`.
-#[tactic(auto, using(crate::proofs::Taking::is_copied_by))]
+#[tactic(auto, using(runnable::proofs::CopyDecided::is_copied_by))]
 fn is_copied(types: &CopyTypes, ty: &Ty) -> bool
     ensures { result ≡ is_copied types.now ty.now }
 {

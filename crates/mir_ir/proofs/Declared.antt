@@ -1,5 +1,5 @@
 -- Declarations that agree with those of bodies.
-use Rattle.std.proofs.Common.{◌≡◌, ◌∙◌, refl, sym, ℕ, ◌<◌, List, length, Option, Some, None, slice_get}
+use Rattle.std.proofs.Common.{◌≡◌, ◌∙◌, refl, sym, ap, ℕ, ◌<◌, List, length, Option, Some, None, slice_get}
 use Rattle.std.proofs.lemmas.Option.{slice_get_within}
 use Rattle.logic_term.specs.declared.declaration.AdtDecl.{AdtDecl}
 use Rattle.logic_term.specs.declared.declaration.VariantDecl.{VariantDecl}
@@ -21,6 +21,10 @@ declaration_of bodies d k fs e = by (slice_get bodies.decls d.0) refl e
 -- what the bodies declare is declared
 pub declared_there : (Δ : Declarations) (bodies : Bodies) → Declares Δ bodies → (d : AdtId) (k : ℕ) (fs : Tys) → declared (theory_in bodies) d k ≡ Some fs → Δ d k ≡ Some fs
 declared_there Δ bodies declares d k fs e = let w = declaration_of bodies d k fs e in declares d w.0 w.1 k ∙ w.2
+
+-- of a type that the bodies declare nothing else is declared
+pub declared_same : (Δ : Declarations) (bodies : Bodies) → Declares Δ bodies → (d : AdtId) (k : ℕ) (fs : Tys) → declared (theory_in bodies) d k ≡ Some fs → (j : ℕ) → Δ d j ≡ declared (theory_in bodies) d j
+declared_same Δ bodies declares d k fs e j = let w = declaration_of bodies d k fs e in declares d w.0 w.1 j ∙ sym (ap (λ (o : Option AdtDecl). fields_of (variant_of o j)) w.1)
 
 variant_within : (vs : List VariantDecl) (k : ℕ) (fs : Tys) → fields_of (slice_get vs k) ≡ Some fs → k < length vs
 variant_within vs k fs e = by (slice_get vs k) refl e

@@ -1,5 +1,5 @@
 -- Which bodies are typed, and in which each local that is read is initialised. The rules are those of the Rust Reference:
--- "Variables" and "Move and copy types" (what is initialised), "Operator expressions" (which operands an operator takes), "Tuple
+-- "Variables" and "Move and copy types" (what is initialised), "Tuple indexing expressions" and "Field access expressions" (what is copied out of a value), "Operator expressions" (which operands an operator takes), "Tuple
 -- expressions", "Struct expressions", "Type cast expressions" (of these the lossless ones), "if expressions" (the condition is a bool), "Match expressions" (all variants are covered) and "Call expressions" (the callee's parameters and answer).
 use Rattle.std.specs.Prelude.{◌≡◌, ℕ, ◌+◌, ◌≤◌, ◌==◌, nat_lt, Bool, true, false, ◌&&◌, cond, List, [], ◌∷◌, ◌++◌, length, take, drop, Some, slice_get}
 use Rattle.logic_term.specs.declared.declaration.AdtDecl.{AdtDecl}
@@ -12,6 +12,7 @@ use Rattle.source_kinds.specs.declared.kinds.BinaryOp.{BinaryOp}
 use Rattle.source_kinds.specs.declared.kinds.BinaryOp.TheVariants.{Add, Sub, Mul, Div, Rem, Eq, Ne, Lt, Le, Gt, Ge}
 use Rattle.source_kinds.specs.Range.{fits, widens}
 use Rattle.logic_term.specs.Sorted.{MadeSort}
+use Rattle.logic_term.specs.Theory.{Theory}
 use Rattle.logic_term.specs.Ty.{Ty, Tys, int, bool, adt, boxed}
 use Rattle.logic_term.specs.TyView.{tys_of}
 use Rattle.mir_ir.specs.declared.place.Place.{Place}
@@ -34,13 +35,18 @@ use Rattle.mir_ir.specs.Body.{block_in}
 use Rattle.mir_ir.specs.Callees.{callee_body}
 use Rattle.mir_ir.specs.Declares.{theory_in}
 use Rattle.mir_ir.specs.Layout.{among, targets}
+use Rattle.mir_ir.specs.Paths.{LeadsTo}
 use Rattle.mir_ir.specs.Acts.{Act, reads, takes, writes, dies, acts_of, acts_of_end, acts_along}
 
 -- ---- types
 
--- so far places are whole locals
+-- a whole local of the type. So far what is written, moved or compared is one
 abbrev pub PlaceHas : Body → Place → Ty → Type 0
 PlaceHas b p t = (p.path ≡ []) × (slice_get b.locals p.local ≡ Some t)
+
+-- a part of a local, or the whole of it: the path leads from the local's type to the type
+abbrev pub PartHas : Theory → Body → Place → Ty → Type 0
+PartHas Θ b p t = (u : Ty) × (slice_get b.locals p.local ≡ Some u) × LeadsTo Θ u p.path t
 
 abbrev pub LitHas : Lit → Ty → Type 0
 LitHas (lit.Int z k) t = (t ≡ int k) × (fits k z ≡ true)
@@ -50,6 +56,12 @@ abbrev pub OperandHas : Body → Operand → Ty → Type 0
 OperandHas b (Copy p) t = PlaceHas b p t
 OperandHas b (Move p) t = PlaceHas b p t
 OperandHas b (Const l) t = LitHas l t
+
+-- what is used as it is: a part may be copied, and what is moved is a whole local
+abbrev pub UsedHas : Theory → Body → Operand → Ty → Type 0
+UsedHas Θ b (Copy p) t = PartHas Θ b p t
+UsedHas Θ b (Move p) t = PlaceHas b p t
+UsedHas Θ b (Const l) t = LitHas l t
 
 -- one operand for each type
 abbrev pub OperandsHave : Body → List Operand → List Ty → Type 0
@@ -92,7 +104,7 @@ IsSigned Isize = Unit {0}
 IsSigned _ = ⊥
 
 abbrev pub RvalueHas : Bodies → Body → Rvalue → Ty → Type 0
-RvalueHas bodies b (Use o) t = OperandHas b o t
+RvalueHas bodies b (Use o) t = UsedHas (theory_in bodies) b o t
 RvalueHas bodies b (Binary op x y) t = (s : Ty) × OperandHas b x s × OperandHas b y s × OperationHas op s t
 RvalueHas bodies b (Neg o) t = (k : IntKind) × IsSigned k × OperandHas b o (int k) × (t ≡ int k)
 RvalueHas bodies b (Not o) t = OperandHas b o bool × (t ≡ bool)

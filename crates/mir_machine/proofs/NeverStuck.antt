@@ -18,10 +18,11 @@ use Rattle.mir_ir.specs.declared.body.Body.{Body}
 use Rattle.mir_ir.specs.declared.body.Bodies.{Bodies}
 use Rattle.mir_ir.specs.Acts.{acts_of_end}
 use Rattle.mir_ir.specs.Body.{answer_ty}
-use Rattle.mir_ir.specs.Declares.{Declares}
+use Rattle.mir_ir.specs.Declares.{Declares, theory_in}
 use Rattle.mir_ir.specs.Layout.{among}
 use Rattle.mir_ir.specs.WellFormed.{HasBlock, EndIsTyped, Locals, Labelling, Within, with, MeetsMoveRows, all_done, AreSound}
 use Rattle.mir_ir.proofs.Declared.{variant_counts}
+use Rattle.mir_ir.proofs.Paths.{operand_used, operands_used}
 use Rattle.mir_ir.proofs.Taking.{RowByRow, row_by_row, taken, all_taken, operands_done, run, CanEnd, Carries}
 use Rattle.mir_machine.specs.Try.{Try, Yields, Panics, Sticks, ◌>>=◌, need}
 use Rattle.mir_machine.specs.Tree.{Tree}
@@ -222,7 +223,7 @@ module _ {K : Type 0} (Δ : Declarations) (code : Code K) (labelling : ℕ → L
     if_goes o l r held typed can carries = on_truth (has_shape takes.typed)
       where
         takes : Takes Δ b g.types n inside s end_set o bool
-        takes = take_yields Δ b g.types n inside s end_set o bool is_n held typed.0 can
+        takes = take_yields Δ b g.types n inside bodies declares s end_set o bool is_n held (operand_used (theory_in bodies) b o bool typed.0) can
 
         leads : (c : Bool) → HasBlock b (cond c l r) × Within (labelling f.function (cond c l r) 0) (taken o end_set)
         leads true = (typed.1, carries.0)
@@ -249,7 +250,7 @@ module _ {K : Type 0} (Δ : Declarations) (code : Code K) (labelling : ℕ → L
         → CanEnd end_set (Call p callee types os l) → Ends (Call p callee types os l)
     call_goes p callee types os l is_last is held ((c, ty, is_c, have, first, place, as_many), to) can =
         let (m, is_m, is_body) = callee_found bodies callee c is_c in
-        let takes = take_all_yields Δ b g.types n inside s end_set os (take c.params (drop 1 c.locals)) is_n held have can in
+        let takes = take_all_yields Δ b g.types n inside bodies declares s end_set os (take c.params (drop 1 c.locals)) is_n held (operands_used (theory_in bodies) b os (take c.params (drop 1 c.locals)) have) can in
         let u : State K = takes.after in
         let h : Frame K = entered c m no_tys takes.trees in
         let v : State K = h ∷ u in

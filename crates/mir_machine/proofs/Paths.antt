@@ -5,11 +5,14 @@ use Rattle.logic_term.specs.declared.kinds.Ctor.{Ctor}
 use Rattle.logic_term.specs.declared.kinds.Ctor.TheVariants.{Tuple, Variant}
 use Rattle.logic_term.specs.Sort.{Declarations, instances}
 use Rattle.logic_term.specs.Ty.{Ty, Tys, tuple, adt, boxed, no_tys, and_ty}
+use Rattle.mir_ir.specs.declared.body.Bodies.{Bodies}
 use Rattle.mir_ir.specs.declared.place.Proj.{Proj}
 use Rattle.mir_ir.specs.declared.place.Proj.TheVariants.{Field, Deref}
 use Rattle.logic_term.specs.Sorted.{sort_at, FieldSort}
-use Rattle.logic_term.specs.Theory.{Theory, declared}
+use Rattle.logic_term.specs.Theory.{declared}
+use Rattle.mir_ir.specs.Declares.{Declares, theory_in}
 use Rattle.mir_ir.specs.Paths.{LeadsTo, at_end, in_field, in_box}
+use Rattle.mir_ir.proofs.Declared.{declared_same}
 use Rattle.mir_machine.specs.declared.spot.Spot.{Spot}
 use Rattle.mir_machine.specs.Try.{Try, Yields, ◌>>=◌, need}
 use Rattle.mir_machine.specs.Tree.{Tree, Trees, Made, Boxed, no_trees, and_tree, nth_tree, set_nth}
@@ -39,6 +42,14 @@ tree_within {K} s at ns =
     (λ f. then_same (need (slice_get f.locals at.local)) (tree_in (at.path ++ ns)) (λ t. tree_in at.path t >>= tree_in ns) (tree_in-append at.path ns)
     ∙ sym (then_then (need (slice_get f.locals at.local)) (tree_in at.path) (tree_in ns)))
     ∙ sym (then_then (frame_at s at.frame) look (tree_in ns))
+
+-- ---- parts
+
+-- the path leads from the tree to its part
+pub data IsAlong {K : Type 0} : Tree K → List Proj → Tree K → Type 0 where
+  whole_along : {t : Tree K} → IsAlong t [] t
+  field_along : {c : Ctor} {ts : Trees K} {t u : Tree K} {n : ℕ} {path : List Proj} → nth_tree ts n ≡ Some t → IsAlong t path u → IsAlong (Made c ts) (Field n ∷ path) u
+  box_along : {t u : Tree K} {path : List Proj} → IsAlong t path u → IsAlong (Boxed t) (Deref ∷ path) u
 
 -- ---- typed parts
 
@@ -90,6 +101,7 @@ module _ {K : Type 0} (Δ : Declarations) (s : State K) where
   pub record Reached (t : Tree K) (ty : Ty) (path : List Proj) (of : Ty) : Type 0 where
     pub children : List ℕ
     pub part : Tree K
+    pub along : IsAlong t path part
     pub is_part : tree_in children t ≡ Yields part
     pub walks : (at : Spot) → tree_at s at ≡ Yields t → walk s at path ≡ Yields (within_spot at children)
     pub typed : HasType Δ s of part
@@ -105,6 +117,7 @@ module _ {K : Type 0} (Δ : Declarations) (s : State K) where
       record {
         children = n ∷ r.children;
         part = r.part;
+        along = field_along is_t r.along;
         is_part = ap (λ (m : Try (Tree K)). m >>= tree_in r.children) first ∙ r.is_part;
         walks = λ at is_whole.
             let here : tree_at s (down at n) ≡ Yields t = tree_within s at (n ∷ []) ∙ ap (λ (m : Try (Tree K)). m >>= tree_in (n ∷ [])) is_whole ∙ ap (λ (m : Try (Tree K)). m >>= λ v. Yields v) first in
@@ -122,6 +135,7 @@ module _ {K : Type 0} (Δ : Declarations) (s : State K) where
   boxed_reached t ty of {path = path} r = record {
     children = 0 ∷ r.children;
     part = r.part;
+    along = box_along r.along;
     is_part = r.is_part;
     walks = λ at is_whole.
         let here : tree_at s (down at 0) ≡ Yields t = tree_within s at (0 ∷ []) ∙ ap (λ (m : Try (Tree K)). m >>= tree_in (0 ∷ [])) is_whole in
@@ -132,23 +146,25 @@ module _ {K : Type 0} (Δ : Declarations) (s : State K) where
         (Boxed v, ap (λ (m : Try (Tree K)). m >>= λ d. Yields (Boxed d)) is_v, record { met = has_v.met; typed = is_boxed has_v.typed; outer = has_v.outer });
   }
 
-module _ {K : Type 0} (Θ : Theory) (s : State K) where
+-- paths are those of types that the bodies declare
+module _ {K : Type 0} (Δ : Declarations) (bodies : Bodies) (declares : Declares Δ bodies) (s : State K) where
   -- through a field of a tuple, or of the one variant of a declared type
-  field_reached : (whole ty of : Ty) (n : ℕ) {path : List Proj} → FieldSort Θ whole n ty → (t : Tree K) → (met : List Met) → Typed (declared Θ) s t whole met → Outer met
-      → ((u : Tree K) → HasType (declared Θ) s ty u → Reached (declared Θ) s u ty path of) → Reached (declared Θ) s t whole (Field n ∷ path) of
+  field_reached : (whole ty of : Ty) (n : ℕ) {path : List Proj} → FieldSort (theory_in bodies) whole n ty → (t : Tree K) → (met : List Met) → Typed Δ s t whole met → Outer met
+      → ((u : Tree K) → HasType Δ s ty u → Reached Δ s u ty path of) → Reached Δ s t whole (Field n ∷ path) of
   field_reached (tuple tys) ty of n e t met (is_tuple {ts = ts} h) outer rest =
-      made_reached (declared Θ) s Tuple ts tys n ty of (record { met = met; typed = h; outer = outer }) e rest (λ us has. record { met = has.met; typed = is_tuple has.typed; outer = has.outer })
-  field_reached (adt d rs args) ty of n (fields, first, alone, e) t met (is_adt {k = k} {fields = those} {ts = ts} declares h) outer rest =
-      let is_first : k ≡ 0 = alone k those declares in
-      let same : those ≡ fields = same_Some _ _ (sym declares ∙ ap (declared Θ d) is_first ∙ first) in
-      made_reached (declared Θ) s (Variant d k) ts (instances args those) n ty of (record { met = met; typed = h; outer = outer }) (ap (λ fs. sort_at (instances args fs) n) same ∙ e) rest
-      (λ us has. record { met = has.met; typed = is_adt declares has.typed; outer = has.outer })
+      made_reached Δ s Tuple ts tys n ty of (record { met = met; typed = h; outer = outer }) e rest (λ us has. record { met = has.met; typed = is_tuple has.typed; outer = has.outer })
+  field_reached (adt d rs args) ty of n (fields, first, alone, e) t met (is_adt {k = k} {fields = those} {ts = ts} here h) outer rest =
+      let is : declared (theory_in bodies) d k ≡ Some those = sym (declared_same Δ bodies declares d 0 fields first k) ∙ here in
+      let same : those ≡ fields = same_Some _ _ (sym is ∙ ap (declared (theory_in bodies) d) (alone k those is) ∙ first) in
+      made_reached Δ s (Variant d k) ts (instances args those) n ty of (record { met = met; typed = h; outer = outer }) (ap (λ fs. sort_at (instances args fs) n) same ∙ e) rest
+      (λ us has. record { met = has.met; typed = is_adt here has.typed; outer = has.outer })
   field_reached whole ty of n field t met h outer rest = absurd field
 
-  pub reached : {ty of : Ty} {path : List Proj} → LeadsTo Θ ty path of → (t : Tree K) → (met : List Met) → Typed (declared Θ) s t ty met → Outer met → Reached (declared Θ) s t ty path of
+  pub reached : {ty of : Ty} {path : List Proj} → LeadsTo (theory_in bodies) ty path of → (t : Tree K) → (met : List Met) → Typed Δ s t ty met → Outer met → Reached Δ s t ty path of
   reached at_end t met h outer = record {
     children = [];
     part = t;
+    along = whole_along;
     is_part = refl;
     walks = λ at e. ap (λ p. Yields (record at { path = p })) (sym (append-nil at.path));
     typed = record { met = met; typed = h; outer = outer };
@@ -156,4 +172,4 @@ module _ {K : Type 0} (Θ : Theory) (s : State K) where
   }
   reached (in_field {u = whole} {part = ty} {t = of} {n = n} field leads) t met h outer =
       field_reached whole ty of n field t met h outer (λ u has. reached leads u has.met has.typed has.outer)
-  reached (in_box {u = ty} {t = of} leads) t met (is_boxed {t = v} h) outer = boxed_reached (declared Θ) s v ty of (reached leads v met h outer)
+  reached (in_box {u = ty} {t = of} leads) t met (is_boxed {t = v} h) outer = boxed_reached Δ s v ty of (reached leads v met h outer)

@@ -13,6 +13,7 @@ use Rattle.logic_term.specs.Ty.{Ty, Tys, int, bool, boxed}
 use Rattle.logic_term.specs.TyView.{tys_of}
 use Rattle.logic_term.specs.Sort.{Declarations, instance, instances}
 use Rattle.logic_term.specs.Sorted.{MadeSort}
+use Rattle.logic_term.specs.Theory.{Theory}
 use Rattle.logic_term.proofs.SortParts.{instances_instances}
 use Rattle.mir_ir.specs.declared.place.Lit.{Lit}
 use Rattle.mir_ir.specs.declared.place.Lit.TheVariants as lit
@@ -27,20 +28,22 @@ use Rattle.mir_ir.specs.declared.body.Body.{Body}
 use Rattle.mir_ir.specs.declared.body.Bodies.{Bodies}
 use Rattle.mir_ir.specs.Body.{whole as whole_ty, place_ty, kind_of, kind_in}
 use Rattle.mir_ir.specs.Declares.{Declares, theory_in}
-use Rattle.mir_ir.specs.WellFormed.{PlaceHas, LitHas, OperandHas, OperandsHave, RvalueHas, StatementIsTyped, Locals, without, with, Within}
+use Rattle.mir_ir.specs.Paths.{LeadsTo}
+use Rattle.mir_ir.specs.WellFormed.{PlaceHas, LitHas, UsedHas, RvalueHas, StatementIsTyped, Locals, without, with, Within}
 use Rattle.mir_ir.proofs.Declared.{declared_there}
+use Rattle.mir_ir.proofs.Paths.{AllUsed, operand_used, operands_used, leads_instance}
 use Rattle.mir_ir.proofs.Taking.{CanTake, taken, CanTakeAll, all_taken, CanEvaluate, evaluated, CanRun, run}
 use Rattle.mir_machine.specs.Try.{Try, Yields, ◌>>=◌, need}
 use Rattle.mir_machine.specs.Tree.{Tree, Trees, Int, Truth, Made, Boxed, Gone, trees_of}
 use Rattle.mir_machine.specs.Frame.{State}
-use Rattle.mir_machine.specs.Memory.{is_there, read, write, put_at, tree_at, running}
+use Rattle.mir_machine.specs.Memory.{is_there, read, write, put_at, tree_at, tree_in, walk, spot_of, running}
 use Rattle.mir_machine.specs.Step.{Taken, operand, operands, binary, negated, inverted, literal, whole, past, statement_step}
 use Rattle.mir_machine.specs.Taken.{operands_of, boxed_first, value_of}
 use Rattle.mir_machine.specs.Typed.{AreTyped, is_tuple, is_adt, is_boxed, none_typed}
 use Rattle.mir_machine.specs.Invariant.{Stop, stops, local_at, HasType, HoldsLocals}
 use Rattle.mir_machine.proofs.Tried.{then_then, Goes, goes_then}
 use Rattle.mir_machine.proofs.TypedTrees.{has_type_kept, has_shape, has_int, has_truth, SameOutside}
-use Rattle.mir_machine.proofs.Paths.{Have, have_more}
+use Rattle.mir_machine.proofs.Paths.{IsAlong, Have, have_more, within_spot, tree_within, Reached, reached}
 use Rattle.mir_machine.proofs.Operators.{binary_goes, negated_goes, inverted_goes}
 use Rattle.mir_machine.proofs.OperandsFirst.{rvalue-row}
 use Rattle.mir_machine.proofs.Writes.{Written, written_apart, put_yields, written_elsewhere, written_on, SameTrees, SameElsewhere, at_next, past_yields, whole-path}
@@ -111,9 +114,9 @@ kind_of_place b θ p ty h =
 
 -- n: the number of the running frame
 module _ {K : Type 0} (n : ℕ) where
-  -- the tree is that which the operand names
+  -- the tree is that which the operand names: of a place that is copied, the part to which its path leads
   abbrev pub IsRead : State K → Operand → Tree K → Type 0
-  IsRead s (Copy p) t = tree_at s (local_at n p.local) ≡ Yields t
+  IsRead s (Copy p) t = (w : Tree K) × (tree_at s (local_at n p.local) ≡ Yields w) × IsAlong w p.path t
   IsRead s (Move p) t = tree_at s (local_at n p.local) ≡ Yields t
   IsRead s (Const l) t = t ≡ literal l
 
@@ -159,14 +162,14 @@ operand_tys bodies b (Widen o k) ty has = int has.0 ∷ []
 operand_tys bodies b (Make c os) ty has = has.0
 operand_tys bodies b (BoxNew o) ty has = has.0 ∷ []
 
-pub operands_have : (bodies : Bodies) (b : Body) (r : Rvalue) (ty : Ty) (has : RvalueHas bodies b r ty) → OperandsHave b (operands_of r) (operand_tys bodies b r ty has)
+pub operands_have : (bodies : Bodies) (b : Body) (r : Rvalue) (ty : Ty) (has : RvalueHas bodies b r ty) → AllUsed (theory_in bodies) b (operands_of r) (operand_tys bodies b r ty has)
 operands_have bodies b (Use o) ty has = (has, tt)
-operands_have bodies b (Binary op x y) ty (of, has_x, has_y, op_has) = (has_x, (has_y, tt))
-operands_have bodies b (Neg o) ty (k, signed, has, is_ty) = (has, tt)
-operands_have bodies b (Not o) ty (has, is_ty) = (has, tt)
-operands_have bodies b (Widen o k) ty (j, wide, has, is_ty) = (has, tt)
-operands_have bodies b (Make c os) ty (tys, have, made) = have
-operands_have bodies b (BoxNew o) ty (of, has, is_ty) = (has, tt)
+operands_have bodies b (Binary op x y) ty (of, has_x, has_y, op_has) = (operand_used (theory_in bodies) b x of has_x, (operand_used (theory_in bodies) b y of has_y, tt))
+operands_have bodies b (Neg o) ty (k, signed, has, is_ty) = (operand_used (theory_in bodies) b o (int k) has, tt)
+operands_have bodies b (Not o) ty (has, is_ty) = (operand_used (theory_in bodies) b o bool has, tt)
+operands_have bodies b (Widen o k) ty (j, wide, has, is_ty) = (operand_used (theory_in bodies) b o (int j) has, tt)
+operands_have bodies b (Make c os) ty (tys, have, made) = operands_used (theory_in bodies) b os tys have
+operands_have bodies b (BoxNew o) ty (of, has, is_ty) = (operand_used (theory_in bodies) b o of has, tt)
 
 -- a value is made of trees of these types
 pub have_all : {K : Type 0} (Δ : Declarations) (s : State K) (θ : Tys) (ts : List (Tree K)) (tys : List Ty) → AreOf Δ s θ ts tys → Have Δ s (trees_of ts) (instances θ (tys_of tys))
@@ -185,6 +188,13 @@ made_typed Δ s θ bodies declares (Variant d k) ts tys ty (rs, args, fs, is, e,
     let typed : AreTyped Δ s ts (instances (instances θ args) fs) h.met = subst (λ qs. AreTyped Δ s ts qs h.met) (ap (instances θ) fields ∙ instances_instances θ args fs) h.typed in
     subst (λ q. HasType Δ s (instance θ q) (Made (Variant d k) ts)) (sym is) (record { met = h.met; typed = is_adt (declared_there Δ bodies declares d k fs e) typed; outer = h.outer })
 made_typed Δ s θ bodies declares (Closure n) ts tys ty is h = absurd is
+
+-- the place's local is initialised, and the path leads from its type to another
+pub record IsPlaceOf (Θ : Theory) (b : Body) (θ : Tys) (set : Locals) (p : Place) (of : Ty) : Type 0 where
+  pub ty : Ty
+  pub is_ty : slice_get b.locals p.local ≡ Some ty
+  pub is_in : set p.local ≡ true
+  pub leads : LeadsTo Θ (instance θ ty) p.path of
 
 -- inside: the running frame is not the outside
 module _ {K : Type 0} (Δ : Declarations) (b : Body) (θ : Tys) (n : ℕ) (inside : n ≡ 0 → ⊥) where
@@ -256,22 +266,46 @@ module _ {K : Type 0} (Δ : Declarations) (b : Body) (θ : Tys) (n : ℕ) (insid
   read_yields s p t is_n no_path e there =
       ap (read s) (whole-path p no_path) ∙ ap (λ k. tree_at s (local_at k p.local) >>= is_there) is_n ∙ ap (λ (m : Try (Tree K)). m >>= is_there) e ∙ there
 
+  -- the local's tree, and its part at the place
+  pub record At (s : State K) (p : Place) (ty of : Ty) : Type 0 where
+    pub tree : Tree K
+    pub is_tree : tree_at s (local_at n p.local) ≡ Yields tree
+    pub there : Reached Δ s tree ty p.path of
+    pub is_spot : spot_of s p ≡ Yields (within_spot (local_at n p.local) there.children)
+    pub is_part : tree_at s (within_spot (local_at n p.local) there.children) ≡ Yields there.part
+
+  pub at_place : (bodies : Bodies) → Declares Δ bodies → (s : State K) (set : Locals) (p : Place) (of : Ty) → running s ≡ n → Held s set → (q : IsPlaceOf (theory_in bodies) b θ set p of) → At s p (instance θ q.ty) of
+  at_place bodies declares s set p of is_n h q =
+      let (t, is_t, there, typed) = local_read s set p.local q.ty h q.is_ty q.is_in in
+      let r = reached Δ bodies declares s q.leads t typed.met typed.typed typed.outer in
+      record {
+        tree = t;
+        is_tree = is_t;
+        there = r;
+        is_spot = ap (λ k. walk s (local_at k p.local) p.path) is_n ∙ r.walks (local_at n p.local) is_t;
+        is_part = tree_within s (local_at n p.local) r.children ∙ ap (λ (m : Try (Tree K)). m >>= tree_in r.children) is_t ∙ r.is_part;
+      }
+
+  -- it reads as its part there
+  pub place_read : {s : State K} {p : Place} {ty of : Ty} (a : At s p ty of) → read s p ≡ Yields a.there.part
+  place_read {s} a = ap (λ m. m >>= λ at. tree_at s at >>= is_there) a.is_spot ∙ ap (λ (m : Try (Tree K)). m >>= is_there) a.is_part ∙ (has_shape a.there.typed).0
+
   literal_typed : (s : State K) (l : Lit) (ty : Ty) → LitHas l ty → HasType Δ s (instance θ ty) (literal l)
   literal_typed s (lit.Int z k) ty (e, fit) = subst (λ t. HasType Δ s (instance θ t) (Int z)) (sym e) (has_int k z fit)
   literal_typed s (lit.Bool x) ty e = subst (λ t. HasType Δ s (instance θ t) (Truth x)) (sym e) (has_truth x)
 
-  pub take_yields : (s : State K) (set : Locals) (o : Operand) (ty : Ty) → running s ≡ n → Held s set → OperandHas b o ty → CanTake set o → Takes s set o ty
-  take_yields s set (Copy p) ty is_n h has can =
-      let (t, is_t, there, typed) = local_read s set p.local ty h has.1 can in
+  pub take_yields : (bodies : Bodies) → Declares Δ bodies → (s : State K) (set : Locals) (o : Operand) (ty : Ty) → running s ≡ n → Held s set → UsedHas (theory_in bodies) b o ty → CanTake set o → Takes s set o ty
+  take_yields bodies declares s set (Copy p) ty is_n h (whole_ty, is_ty, leads) can =
+      let a = at_place bodies declares s set p (instance θ ty) is_n h (record { ty = whole_ty; is_ty = is_ty; is_in = can; leads = leads_instance θ leads }) in
       record {
         after = s;
-        tree = t;
-        yields = ap (λ (m : Try (Tree K)). m >>= λ t. Yields (s, t)) (read_yields s p t is_n has.0 is_t there);
-        took = record { stay = refl; elsewhere = λ at d. refl; is_read = is_t; same = λ x i. refl };
+        tree = a.there.part;
+        yields = ap (λ (m : Try (Tree K)). m >>= λ t. Yields (s, t)) (place_read a);
+        took = record { stay = refl; elsewhere = λ at d. refl; is_read = (a.tree, a.is_tree, a.there.along); same = λ x i. refl };
         held = h;
-        typed = typed;
+        typed = a.there.typed;
       }
-  take_yields s set (Move p) ty is_n h has can =
+  take_yields bodies declares s set (Move p) ty is_n h has can =
       let (t, is_t, there, typed) = local_read s set p.local ty h has.1 can in
       let (s', is_s', w) = write_yields s n p Gone t is_n has.0 is_t in
       record {
@@ -287,7 +321,7 @@ module _ {K : Type 0} (Δ : Declarations) (b : Body) (θ : Tys) (n : ℕ) (insid
         held = held_gone p.local w h;
         typed = has_type_kept s' (outside_same s s' (written_elsewhere n refl w)) typed;
       }
-  take_yields s set (Const l) ty is_n h has can = record {
+  take_yields bodies declares s set (Const l) ty is_n h has can = record {
     after = s;
     tree = literal l;
     yields = refl;
@@ -306,13 +340,13 @@ module _ {K : Type 0} (Δ : Declarations) (b : Body) (θ : Tys) (n : ℕ) (insid
     pub held : Held after (all_taken os set)
     pub typed : AreOf Δ after θ trees tys
 
-  pub take_all_yields : (s : State K) (set : Locals) (os : List Operand) (tys : List Ty) → running s ≡ n → Held s set → OperandsHave b os tys → CanTakeAll set os → TakesAll s set os tys
-  take_all_yields s set [] [] is_n h have can = record { after = s; trees = []; yields = refl; stay = refl; elsewhere = λ at d. refl; took = took_none; held = h; typed = are_of_none }
-  take_all_yields s set [] (ty ∷ tys) is_n h have can = absurd have
-  take_all_yields s set (o ∷ os) [] is_n h have can = absurd have
-  take_all_yields s set (o ∷ os) (ty ∷ tys) is_n h have can =
-      let first = take_yields s set o ty is_n h have.0 can.0 in
-      let rest = take_all_yields first.after (taken o set) os tys (still_running s first.after n first.took.stay is_n) first.held have.1 can.1 in
+  pub take_all_yields : (bodies : Bodies) → Declares Δ bodies → (s : State K) (set : Locals) (os : List Operand) (tys : List Ty) → running s ≡ n → Held s set → AllUsed (theory_in bodies) b os tys → CanTakeAll set os → TakesAll s set os tys
+  take_all_yields bodies declares s set [] [] is_n h have can = record { after = s; trees = []; yields = refl; stay = refl; elsewhere = λ at d. refl; took = took_none; held = h; typed = are_of_none }
+  take_all_yields bodies declares s set [] (ty ∷ tys) is_n h have can = absurd have
+  take_all_yields bodies declares s set (o ∷ os) [] is_n h have can = absurd have
+  take_all_yields bodies declares s set (o ∷ os) (ty ∷ tys) is_n h have can =
+      let first = take_yields bodies declares s set o ty is_n h have.0 can.0 in
+      let rest = take_all_yields bodies declares first.after (taken o set) os tys (still_running s first.after n first.took.stay is_n) first.held have.1 can.1 in
       record {
         after = rest.after;
         trees = first.tree ∷ rest.trees;
@@ -376,20 +410,20 @@ module _ {K : Type 0} (Δ : Declarations) (b : Body) (θ : Tys) (n : ℕ) (insid
   -- ---- statements
 
   -- an assignment takes its operands, makes its value of their trees, and puts it where the place is
-  pub record Assigns (s : State K) (set : Locals) (span : Span) (p : Place) (r : Rvalue) (ty : Ty) (ks : List Stop) : Type 0 where
+  pub record Assigns (bodies : Bodies) (s : State K) (set : Locals) (span : Span) (p : Place) (r : Rvalue) (ty : Ty) (ks : List Stop) : Type 0 where
     pub tys : List Ty
-    pub have : OperandsHave b (operands_of r) tys
+    pub have : AllUsed (theory_in bodies) b (operands_of r) tys
     pub takes : TakesAll s set (operands_of r) tys
     pub value : Goes (HasType Δ takes.after (instance θ ty)) (value_of (kind_in (place_ty b θ p)) span r takes.trees)
     pub puts : (t : Tree K) → (v : State K) × ((write takes.after p t >>= past) ≡ Yields v) × Written takes.after (local_at n p.local) t ks v
     pub row : statement_step b θ s span (Assign p r) ≡ (value_of (kind_in (place_ty b θ p)) span r takes.trees >>= λ t. write takes.after p t >>= past)
 
   pub assign_yields : (bodies : Bodies) → Declares Δ bodies → (s : State K) (set : Locals) (span : Span) (p : Place) (r : Rvalue) (ty : Ty) (g : Stop) (gs : List Stop) → running s ≡ n → stops s ≡ g ∷ gs → Held s set
-      → PlaceHas b p ty → RvalueHas bodies b r ty → CanEvaluate set r → Assigns s set span p r ty (at_next g ∷ gs)
+      → PlaceHas b p ty → RvalueHas bodies b r ty → CanEvaluate set r → Assigns bodies s set span p r ty (at_next g ∷ gs)
   assign_yields bodies declares s set span p r ty g gs is_n is_stops h has_p has can =
       let kind : Option IntKind = kind_in (place_ty b θ p) in
       let tys : List Ty = operand_tys bodies b r ty has in
-      let takes = take_all_yields s set (operands_of r) tys is_n h (operands_have bodies b r ty has) (can_take_all r set can) in
+      let takes = take_all_yields bodies declares s set (operands_of r) tys is_n h (operands_have bodies b r ty has) (can_take_all r set can) in
       let finish : Taken K → Try (State K) = λ q. write q.0 p q.1 >>= past in
       let beside : Tree K → Try (Taken K) = λ t. Yields (takes.after, t) in
       let slot = takes.held.slot p.local ty has_p.1 in
@@ -417,7 +451,7 @@ module _ {K : Type 0} (Δ : Declarations) (b : Body) (θ : Tys) (n : ℕ) (insid
     pub elsewhere : SameElsewhere n s v
 
   -- the value of an assignment was put
-  pub assigned_ran : {s : State K} {set : Locals} {span : Span} {p : Place} {r : Rvalue} {ty : Ty} {ks : List Stop} (a : Assigns s set span p r ty ks) (t : Tree K) (v : State K)
+  pub assigned_ran : {bodies : Bodies} {s : State K} {set : Locals} {span : Span} {p : Place} {r : Rvalue} {ty : Ty} {ks : List Stop} (a : Assigns bodies s set span p r ty ks) (t : Tree K) (v : State K)
       → PlaceHas b p ty → HasType Δ a.takes.after (instance θ ty) t → Written a.takes.after (local_at n p.local) t ks v → Ran s set (Assign p r) ks v
   assigned_ran {set = set} {p = p} {r = r} {ty = ty} a t v has typed w = record {
     held = held_set p.local ty w has.1 typed (subst (Held a.takes.after) (evaluated_is r set) a.takes.held);

@@ -11,13 +11,16 @@ use Rattle.source_kinds.specs.declared.kinds.BinaryOp.TheVariants.{Add, Sub, Mul
 use Rattle.source_kinds.specs.declared.kinds.IntKind.{IntKind}
 use Rattle.source_kinds.specs.declared.kinds.IntKind.TheVariants.{I8, I16, I32, I64, Isize, U8, U16, U32, U64, Usize}
 use Rattle.source_kinds.specs.Range.{lowest, highest}
-use Rattle.logic_term.specs.Term.{made, Term, var, lit, truth, apply, model, negative, not, calculate, is_less, is_at_most, is_equal, and}
+use Rattle.logic_term.specs.Term.{made, Term, var, lit, truth, apply, part, model, negative, not, calculate, is_less, is_at_most, is_equal, and}
 use Rattle.logic_term.specs.TermView.{terms_of}
 use Rattle.logic_term.specs.Ty.{Ty, int, bool, math_int}
 use Rattle.mir_ir.specs.declared.place.Lit.{Lit}
 use Rattle.mir_ir.specs.declared.place.Lit.TheVariants as literal
 use Rattle.mir_ir.specs.declared.place.Operand.{Operand}
 use Rattle.mir_ir.specs.declared.place.Operand.TheVariants.{Copy, Move, Const}
+use Rattle.mir_ir.specs.declared.place.Place.{Place}
+use Rattle.mir_ir.specs.declared.place.Proj.{Proj}
+use Rattle.mir_ir.specs.declared.place.Proj.TheVariants.{Field, Variant, Deref}
 use Rattle.mir_ir.specs.declared.statement.Rvalue.{Rvalue}
 use Rattle.mir_ir.specs.declared.statement.Rvalue.TheVariants.{Use, Binary, Neg, Not, Widen, Make, BoxNew}
 use Rattle.mir_ir.specs.declared.statement.StatementKind.{StatementKind}
@@ -54,13 +57,23 @@ or_value_name (Some x) = x
 abbrev pub name_of : Body → ℕ → Name
 name_of b x = or_value_name (slice_get b.names x)
 
+-- the part at the end of the path. A box is what it holds
+abbrev pub part_at : Term → List Proj → Term
+part_at t [] = t
+part_at t (Field n ∷ path) = part_at (part n t) path
+part_at t (Variant n ∷ path) = part_at t path
+part_at t (Deref ∷ path) = part_at t path
+
+abbrev pub place_term : Body → Place → Term
+place_term b p = part_at (var (name_of b p.local)) p.path
+
 abbrev pub literal_term : Lit → Term
 literal_term (literal.Int z k) = lit z (int k)
 literal_term (literal.Bool x) = truth x
 
 abbrev pub operand_term : Body → Operand → Term
-operand_term b (Copy p) = var (name_of b p.local)
-operand_term b (Move p) = var (name_of b p.local)
+operand_term b (Copy p) = place_term b p
+operand_term b (Move p) = place_term b p
 operand_term b (Const l) = literal_term l
 
 abbrev pub literal_ty : Lit → Option Ty

@@ -18,7 +18,9 @@ use Rattle.mir_ir.specs.declared.terminator.Callee.{Callee}
 use Rattle.mir_ir.specs.Callees.{callee_of, contract_at}
 use Rattle.mir_ir.specs.declared.terminator.TerminatorKind.TheVariants.{Call}
 use Rattle.mir_ir.specs.declared.body.Body.{Body}
+use Rattle.mir_ir.specs.Declares.{theory_in}
 use Rattle.mir_ir.specs.WellFormed.{EndIsTyped, Locals, Labelling, OperandsHave}
+use Rattle.mir_ir.proofs.Paths.{AllUsed, operands_used}
 use Rattle.mir_ir.proofs.Taking.{CanEnd, CanTakeAll, all_taken}
 use Rattle.mir_machine.specs.Tree.{Tree}
 use Rattle.mir_machine.specs.Frame.{Frame, State}
@@ -96,6 +98,9 @@ module _ {K : Type 0} (s : Setup K) (f : FunctionOf s) (ρ₀ : Env) (fr : Frame
 
     abbrev have : OperandsHave b os param_types
     have = ended.0.3
+
+    used : AllUsed (theory_in (bodies s)) b os param_types
+    used = operands_used (theory_in (bodies s)) b os param_types have
 
     abbrev values : Values
     values = operand_values b ρ os
@@ -207,9 +212,9 @@ module _ {K : Type 0} (s : Setup K) (f : FunctionOf s) (ρ₀ : Env) (fr : Frame
     pub call_comes : Quiet Fine (end_step s.code now at (Call p target types os l))
     unfolding calls_fine
     call_comes =
-        let takes = take_all_yields (declarations s) b no_tys frame inside now end_set os param_types (sym (stops_length fs)) held have can in
+        let takes = take_all_yields (declarations s) b no_tys frame inside (bodies s) s.declares now end_set os param_types (sym (stops_length fs)) held used can in
         let more : length takes.after ≡ suc frame = sym (stops_length takes.after) ∙ ap length takes.stay in
-        let shows : AllShow takes.trees values = took_all_show b ρ param_types have can agrees takes.took in
+        let shows : AllShow takes.trees values = took_all_show b (theory_in (bodies s)) ρ param_types used can agrees takes.took in
         subst (Quiet Fine) (sym (call-row s.code now takes.after at p target types os l takes.trees callee.number callee.body takes.yields found.1 callee.is_body))
         (continues.calls takes.after takes.stay takes.elsewhere
         (calls_fine takes.after takes.trees more takes.held (all_fit (bodies s) (own s callee).simple.owns (declarations s) s.declares (own s callee).simple.fields (owned_params s callee) takes.typed) (took_all_agree b ρ agrees takes.took) shows))

@@ -21,7 +21,9 @@ use Rattle.mir_ir.specs.declared.terminator.TerminatorKind.TheVariants.{If, Retu
 use Rattle.mir_ir.specs.declared.body.Body.{Body}
 use Rattle.mir_ir.specs.Body.{param_tys}
 use Rattle.mir_ir.specs.Layout.{among, targets}
-use Rattle.mir_ir.specs.WellFormed.{EndIsTyped, Locals, Labelling, Within as Within_set}
+use Rattle.mir_ir.specs.Declares.{theory_in}
+use Rattle.mir_ir.specs.WellFormed.{UsedHas, EndIsTyped, Locals, Labelling, Within as Within_set}
+use Rattle.mir_ir.proofs.Paths.{operand_used}
 use Rattle.mir_ir.proofs.Taking.{taken, CanEnd, Carries}
 use Rattle.mir_machine.specs.Tree.{Tree, trees_of}
 use Rattle.mir_machine.specs.Frame.{Frame, State}
@@ -151,8 +153,11 @@ module _ {K : Type 0} (s : Setup K) where
             carries : Carries (λ m. initialised m 0) end_set (If o l r)
             carries = subst (Carries (λ m. initialised m 0) end_set) kind ((move_rows s f).edges g.label st.block st.is_block)
 
+            used : UsedHas (theory_in (bodies s)) b o bool
+            used = operand_used (theory_in (bodies s)) b o bool has.0
+
             takes : Takes (declarations s) b no_tys n inside now end_set o bool
-            takes = take_yields (declarations s) b no_tys n inside now end_set o bool is_n held has.0 can
+            takes = take_yields (declarations s) b no_tys n inside (bodies s) s.declares now end_set o bool is_n held used can
 
             value : Value
             value = operand_value b ρ o
@@ -187,7 +192,7 @@ module _ {K : Type 0} (s : Setup K) where
             by_truth : Shape bool takes.tree → Quiet Fine (end_step s.code now at (If o l r))
             by_truth (there, (c, is)) =
                 let (after, is_after, stay, same) = if-row s.code now takes.after at o c l r g (stops fs) (takes.yields ∙ ap (λ (t : Tree K). Yields (takes.after, t)) is) takes.took.stay in
-                let shows : Shows takes.tree value = took_shows b ρ o bool has.0 can agrees takes.took in
+                let shows : Shows takes.tree value = took_shows b (theory_in (bodies s)) ρ o bool used can agrees takes.took in
                 let is_flag : value ≡ Flag c = shows_truth c value (subst (λ (u : Tree K). Shows u value) is shows) in
                 let held' : Holding s f after n (taken o end_set) = held_moved (declarations s) (λ x. same (local_at n x)) (λ at e. same at) takes.held in
                 let agreed : Agree b after n (taken o end_set) ρ = agree_moved b takes.after after n (taken o end_set) ρ (λ x. same (local_at n x)) (took_agrees b ρ o agrees takes.took) in

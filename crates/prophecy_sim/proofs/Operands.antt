@@ -4,20 +4,26 @@ use Rattle.text_core.specs.declared.span.Span.{Span}
 use Rattle.source_kinds.specs.declared.kinds.IntKind.{IntKind}
 use Rattle.source_kinds.specs.Range.{fits}
 use Rattle.logic_term.specs.Meaning.{Structure, Env, Means, with_value}
+use Rattle.logic_term.specs.Term.{Term, var, part}
+use Rattle.logic_term.specs.Theory.{Theory}
 use Rattle.logic_term.specs.Ty.{Ty}
-use Rattle.logic_term.specs.Value.{Value, Values, Number, Flag, no_values, and_value, integer_of, flag_of}
+use Rattle.logic_term.specs.Value.{Value, Values, Number, Flag, no_values, and_value, integer_of, flag_of, nth_part}
 use Rattle.logic_term.specs.Value as value
 use Rattle.logic_term.proofs.Alike.{alike_same}
 use Rattle.logic_term.proofs.Coincide.{with_other}
-use Rattle.logic_term.proofs.Truth.{Exactly}
+use Rattle.logic_term.proofs.Truth.{Exactly, part_exactly}
 use Rattle.mir_ir.specs.declared.place.Lit.{Lit}
 use Rattle.mir_ir.specs.declared.place.Lit.TheVariants as lit
 use Rattle.mir_ir.specs.declared.place.Operand.{Operand}
 use Rattle.mir_ir.specs.declared.place.Operand.TheVariants.{Copy, Move, Const}
+use Rattle.mir_ir.specs.declared.place.Place.{Place}
+use Rattle.mir_ir.specs.declared.place.Proj.{Proj}
+use Rattle.mir_ir.specs.declared.place.Proj.TheVariants.{Field, Variant, Deref}
 use Rattle.mir_ir.specs.declared.statement.Rvalue.{Rvalue}
 use Rattle.mir_ir.specs.declared.statement.Rvalue.TheVariants.{Use, Binary, Neg, Not, Widen, Make, BoxNew}
 use Rattle.mir_ir.specs.declared.body.Body.{Body}
-use Rattle.mir_ir.specs.WellFormed.{Locals, Within, OperandHas, OperandsHave, with, without}
+use Rattle.mir_ir.specs.WellFormed.{Locals, Within, PlaceHas, OperandHas, UsedHas, with, without}
+use Rattle.mir_ir.proofs.Paths.{AllUsed}
 use Rattle.mir_ir.proofs.Taking.{CanTake, CanTakeAll, taken, all_taken, evaluated}
 use Rattle.mir_machine.specs.Try.{Try, Yields, ◌>>=◌, need}
 use Rattle.mir_machine.specs.Tree.{Tree, Boxed, Gone}
@@ -26,11 +32,12 @@ use Rattle.mir_machine.specs.Memory.{tree_at}
 use Rattle.mir_machine.specs.Step.{binary, negated, inverted, literal}
 use Rattle.mir_machine.specs.Taken.{operands_of, value_of}
 use Rattle.mir_machine.specs.Invariant.{Stop, local_at}
+use Rattle.mir_machine.proofs.Paths.{IsAlong, whole_along, field_along, box_along}
 use Rattle.mir_machine.proofs.Tried.{Quiet}
 use Rattle.mir_machine.proofs.Writes.{Written, written_apart}
 use Rattle.mir_machine.proofs.TypedRows.{apart, Took, TookAll, took_none, took_more}
-use Rattle.prophecy_logic.specs.Row.{value_name, name_of, operand_term}
-use Rattle.prophecy_sim.proofs.Owned.{Shows, AllShow, int_shows, truth_shows, box_shows, made_shows}
+use Rattle.prophecy_logic.specs.Row.{value_name, name_of, part_at, operand_term}
+use Rattle.prophecy_sim.proofs.Owned.{Shows, AllShow, field_shows, held_shows, int_shows, truth_shows, box_shows, made_shows}
 use Rattle.prophecy_sim.proofs.Operations.{applied, InKind, IsInRange, opposite, binary_shows, negated_shows, inverted_shows}
 
 -- ---- the values of right sides in an environment
@@ -39,9 +46,19 @@ abbrev pub literal_value : Lit → Value
 literal_value (lit.Int z k) = Number z
 literal_value (lit.Bool b) = Flag b
 
+-- the part at the end of the path. A box is what it holds
+abbrev pub value_at : Value → List Proj → Value
+value_at v [] = v
+value_at v (Field n ∷ path) = value_at (nth_part n v) path
+value_at v (Variant n ∷ path) = value_at v path
+value_at v (Deref ∷ path) = value_at v path
+
+abbrev pub place_value : Body → Env → Place → Value
+place_value b ρ p = value_at (ρ (name_of b p.local)) p.path
+
 abbrev pub operand_value : Body → Env → Operand → Value
-operand_value b ρ (Copy p) = ρ (name_of b p.local)
-operand_value b ρ (Move p) = ρ (name_of b p.local)
+operand_value b ρ (Copy p) = place_value b ρ p
+operand_value b ρ (Move p) = place_value b ρ p
 operand_value b ρ (Const l) = literal_value l
 
 abbrev pub operand_values : Body → Env → List Operand → Values
@@ -67,18 +84,29 @@ RvalueIsInRange b kind ρ (Widen o k) = Unit {0}
 RvalueIsInRange b kind ρ (Make c os) = Unit {0}
 RvalueIsInRange b kind ρ (BoxNew o) = Unit {0}
 
+-- the term of a part has the part's value
+part_means : (S : Structure) (ρ : Env) (path : List Proj) (t : Term) (v : Value) → Exactly (Means S t ρ) v → Exactly (Means S (part_at t path) ρ) (value_at v path)
+part_means S ρ [] t v e = e
+part_means S ρ (Field n ∷ path) t v e = part_means S ρ path (part n t) (nth_part n v) (part_exactly S n t ρ v e)
+part_means S ρ (Variant n ∷ path) t v e = part_means S ρ path t v e
+part_means S ρ (Deref ∷ path) t v e = part_means S ρ path t v e
+
 -- the term of an operand has the operand's value
 pub operand_means : (S : Structure) (b : Body) (ρ : Env) (o : Operand) → Exactly (Means S (operand_term b o) ρ) (operand_value b ρ o)
-operand_means S b ρ (Copy p) = alike_same _
-operand_means S b ρ (Move p) = alike_same _
+operand_means S b ρ (Copy p) = part_means S ρ p.path (var (name_of b p.local)) (ρ (name_of b p.local)) (alike_same _)
+operand_means S b ρ (Move p) = part_means S ρ p.path (var (name_of b p.local)) (ρ (name_of b p.local)) (alike_same _)
 operand_means S b ρ (Const (lit.Int z k)) = alike_same _
 operand_means S b ρ (Const (lit.Bool c)) = alike_same _
+
+-- a whole local has the value of its name
+pub whole_value : (b : Body) (ρ : Env) (p : Place) (ty : Ty) → PlaceHas b p ty → place_value b ρ p ≡ ρ (name_of b p.local)
+whole_value b ρ p ty has = ap (value_at (ρ (name_of b p.local))) has.0
 
 -- a new value changes no operand, where no local has its name
 pub new_value : (b : Body) → ((x : ℕ) (ty : Ty) → slice_get b.locals x ≡ Some ty → (name_of b x).0 ≡ value_name.0 → ⊥) → (ρ : Env) (w : Value) (o : Operand) (ty : Ty) → OperandHas b o ty →
     operand_value b (with_value ρ value_name w) o ≡ operand_value b ρ o
-new_value b not_new ρ w (Copy p) ty has = with_other ρ value_name (name_of b p.local) w (not_new p.local ty has.1)
-new_value b not_new ρ w (Move p) ty has = with_other ρ value_name (name_of b p.local) w (not_new p.local ty has.1)
+new_value b not_new ρ w (Copy p) ty has = ap (λ v. value_at v p.path) (with_other ρ value_name (name_of b p.local) w (not_new p.local ty has.1))
+new_value b not_new ρ w (Move p) ty has = ap (λ v. value_at v p.path) (with_other ρ value_name (name_of b p.local) w (not_new p.local ty has.1))
 new_value b not_new ρ w (Const l) ty has = refl
 
 -- ---- what is initialised after a right side was so before
@@ -159,11 +187,17 @@ module _ {K : Type 0} (b : Body) where
   literal_shows (lit.Int z k) = int_shows K z
   literal_shows (lit.Bool c) = truth_shows K c
 
+  -- along a path a tree shows the part of what it shows
+  part_shows : {w t : Tree K} {path : List Proj} {v : Value} → IsAlong w path t → Shows w v → Shows t (value_at v path)
+  part_shows whole_along h = h
+  part_shows {v = v} (field_along {c = c} {ts = ts} {t = u} {n = n} is_u along) h = part_shows along (field_shows c ts n u v is_u h)
+  part_shows {v = v} (box_along {t = u} along) h = part_shows along (held_shows u v h)
+
   -- the tree that an operand gave shows the operand's value
-  pub took_shows : {st u : State K} {n : ℕ} {set : Locals} {t : Tree K} (ρ : Env) (o : Operand) (ty : Ty) → OperandHas b o ty → CanTake set o → Agree st n set ρ → Took n st set o u t → Shows t (operand_value b ρ o)
-  took_shows {t = t} ρ (Copy p) ty has can h took = h p.local ty t can has.1 took.is_read
-  took_shows {t = t} ρ (Move p) ty has can h took = h p.local ty t can has.1 took.is_read
-  took_shows ρ (Const l) ty has can h took = subst (λ (w : Tree K). Shows w (literal_value l)) (sym took.is_read) (literal_shows l)
+  pub took_shows : {st u : State K} {n : ℕ} {set : Locals} {t : Tree K} (Θ : Theory) (ρ : Env) (o : Operand) (ty : Ty) → UsedHas Θ b o ty → CanTake set o → Agree st n set ρ → Took n st set o u t → Shows t (operand_value b ρ o)
+  took_shows Θ ρ (Copy p) ty (whole_ty, is_ty, leads) can h took = let (w, is_w, along) = took.is_read in part_shows along (h p.local whole_ty w can is_ty is_w)
+  took_shows {t = t} Θ ρ (Move p) ty has can h took = subst (Shows t) (sym (whole_value b ρ p ty has)) (h p.local ty t can has.1 took.is_read)
+  took_shows Θ ρ (Const l) ty has can h took = subst (λ (w : Tree K). Shows w (literal_value l)) (sym took.is_read) (literal_shows l)
 
   pub took_agrees : {st u : State K} {n : ℕ} {set : Locals} {t : Tree K} (ρ : Env) (o : Operand) → Agree st n set ρ → Took n st set o u t → Agree u n (taken o set) ρ
   took_agrees {set = set} ρ o h took x ty t inside is_ty e = h x ty t (taken_before o set x inside) is_ty (sym (took.same x inside) ∙ e)
@@ -172,11 +206,11 @@ module _ {K : Type 0} (b : Body) where
   took_all_agree ρ h took_none = h
   took_all_agree ρ h (took_more {o = o} took rest) = took_all_agree ρ (took_agrees ρ o h took) rest
 
-  pub took_all_show : {n : ℕ} {st u : State K} {set : Locals} {os : List Operand} {ts : List (Tree K)} (ρ : Env) (tys : List Ty) → OperandsHave b os tys → CanTakeAll set os → Agree st n set ρ → TookAll n st set os u ts →
+  pub took_all_show : {n : ℕ} {st u : State K} {set : Locals} {os : List Operand} {ts : List (Tree K)} (Θ : Theory) (ρ : Env) (tys : List Ty) → AllUsed Θ b os tys → CanTakeAll set os → Agree st n set ρ → TookAll n st set os u ts →
       AllShow ts (operand_values b ρ os)
-  took_all_show ρ tys have can h took_none = tt
-  took_all_show ρ [] have can h (took_more took rest) = absurd have
-  took_all_show ρ (ty ∷ tys) have can h (took_more {o = o} took rest) = (took_shows ρ o ty have.0 can.0 h took, took_all_show ρ tys have.1 can.1 (took_agrees ρ o h took) rest)
+  took_all_show Θ ρ tys have can h took_none = tt
+  took_all_show Θ ρ [] have can h (took_more took rest) = absurd have
+  took_all_show Θ ρ (ty ∷ tys) have can h (took_more {o = o} took rest) = (took_shows Θ ρ o ty have.0 can.0 h took, took_all_show Θ ρ tys have.1 can.1 (took_agrees ρ o h took) rest)
 
   -- ---- right sides
 

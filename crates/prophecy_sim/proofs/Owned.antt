@@ -1,5 +1,5 @@
 -- Trees without references: what such a tree reads as does not depend on the state, nor on where it stands.
-use Rattle.std.proofs.Common.{◌≡◌, ◌∙◌, refl, sym, ap, ap₂, subst, ℕ, zero, suc, ℤ, Bool, true, false, List, [], ◌∷◌, ◌++◌, length, Option, Some, None, slice_get, arith}
+use Rattle.std.proofs.Common.{◌≡◌, ◌∙◌, refl, sym, ap, ap₂, subst, ℕ, zero, suc, ℤ, Bool, true, false, List, [], ◌∷◌, ◌++◌, length, Option, Some, slice_get, true≢false, arith}
 use Rattle.std.proofs.lemmas.Option.{same_Some}
 use Rattle.logic_term.specs.declared.declaration.AdtDecl.{AdtDecl}
 use Rattle.logic_term.specs.declared.kinds.AdtId.{AdtId}
@@ -9,16 +9,17 @@ use Rattle.logic_term.specs.Sort.{Declarations, HasSort, HaveSorts, instance, in
 use Rattle.logic_term.specs.Theory.{fields_of, variant_of, declared}
 use Rattle.logic_term.specs.TyView.{tys_of}
 use Rattle.logic_term.specs.Ty.{Ty, Tys, int, bool, math_int, tuple, adt, boxed, shared, unique, param, closure, viewed, snapshot, no_tys, and_ty}
-use Rattle.logic_term.specs.Value.{Value, Values, Number, Flag, nothing, no_values, and_value}
+use Rattle.logic_term.specs.Value.{Value, Values, Number, Flag, nothing, no_values, and_value, nth_value, nth_part}
 use Rattle.logic_term.specs.Value as value
 use Rattle.mir_ir.specs.declared.body.Bodies.{Bodies}
 use Rattle.mir_ir.specs.Declares.{Declares, theory_in}
 use Rattle.mir_ir.proofs.Declared.{declared_there}
 use Rattle.mir_machine.specs.declared.spot.Spot.{Spot}
-use Rattle.mir_machine.specs.Tree.{Tree, Trees, Int, Truth, Made, Boxed, Shared, Unique, Gone, no_trees, and_tree, trees_of}
+use Rattle.mir_machine.specs.Try.{Yields}
+use Rattle.mir_machine.specs.Tree.{Tree, Trees, Int, Truth, Made, Boxed, Shared, Unique, Gone, no_trees, and_tree, trees_of, nth_tree}
 use Rattle.mir_machine.specs.Frame.{State}
-use Rattle.mir_machine.specs.Memory.{down}
-use Rattle.mir_machine.specs.Reads.{View, Owner, Reads, ReadsAll, of_lent, of_int, of_truth, of_made, of_boxed, of_none, of_more}
+use Rattle.mir_machine.specs.Memory.{tree_at, down}
+use Rattle.mir_machine.specs.Reads.{View, Owner, Reads, ReadsAll, of_lent, of_gone, of_int, of_truth, of_made, of_boxed, of_shared as reads_shared, of_unique as reads_unique, of_none, of_more}
 use Rattle.mir_machine.specs.Typed.{Met, Typed, AreTyped, is_int, is_truth, is_tuple, is_adt, is_closure, is_boxed, is_shared, is_unique, none_typed, more_typed}
 use Rattle.mir_machine.specs.Good.{here, not_lent}
 use Rattle.mir_machine.specs.Invariant.{HasType}
@@ -171,6 +172,47 @@ shows_truth b v h = reads_truth (λ d k. Some no_tys) (h false [] (λ k at. noth
 -- a box shows what it holds shows
 pub box_shows : {K : Type 0} (t : Tree K) (v : Value) → Shows t v → Shows (Boxed t) v
 box_shows t v h gaps s final w at = of_boxed refl (h gaps s final w (down at 0))
+
+-- ---- parts
+
+no_tree : {K : Type 0} (to : Spot) (t : Tree K) → tree_at [] to ≡ Yields t → ⊥
+no_tree to t e = cc
+
+-- what reads as a value in a state without frames refers to nothing, and so it reads as that value in every state and from every place
+module _ {K : Type 0} (alone : State K) (is_alone : alone ≡ []) (exact : Bool) (is_exact : exact ≡ false) (supply : K → Spot → Value) where
+  mutual
+    reads_anywhere : {gaps : Bool} {s : State K} {final : K → Spot → Value} {w view : View K} {at from : Spot} {t : Tree K} {v : Value} → Reads exact alone supply not_lent view from t v → Reads gaps s final not_lent w at t v
+    reads_anywhere (of_lent e) = absurd (cc)
+    reads_anywhere (of_gone e f) = absurd (true≢false (sym e ∙ is_exact))
+    reads_anywhere (of_int e) = of_int refl
+    reads_anywhere (of_truth e) = of_truth refl
+    reads_anywhere (of_made e parts) = of_made refl (all_read_anywhere parts)
+    reads_anywhere (of_boxed e h) = of_boxed refl (reads_anywhere h)
+    reads_anywhere (reads_shared {to = to} {t = t} e is h) = absurd (no_tree to t (subst (λ u. tree_at u to ≡ Yields t) is_alone is))
+    reads_anywhere (reads_unique {to = to} {t = t} e is h) = absurd (no_tree to t (subst (λ u. tree_at u to ≡ Yields t) is_alone is))
+
+    all_read_anywhere : {gaps : Bool} {s : State K} {final : K → Spot → Value} {w view : View K} {at from : Spot} {n m : ℕ} {ts : Trees K} {vs : Values} → ReadsAll exact alone supply not_lent view from m ts vs
+        → ReadsAll gaps s final not_lent w at n ts vs
+    all_read_anywhere of_none = of_none
+    all_read_anywhere (of_more h hs) = of_more (reads_anywhere h) (all_read_anywhere hs)
+
+alone_shows : {K : Type 0} (at : Spot) (t : Tree K) (v : Value) → Reads false [] (λ k at. nothing) not_lent Owner at t v → Shows t v
+alone_shows at t v h gaps s final w to = reads_anywhere [] refl false refl (λ k at. nothing) h
+
+nth_shows : {K : Type 0} (ts : Trees K) (vs : Values) (at : Spot) (m n : ℕ) (t : Tree K) → ReadsAll false [] (λ k at. nothing) not_lent Owner at m ts vs → nth_tree ts n ≡ Some t → Shows t (nth_value vs n)
+nth_shows no_trees vs at m n t h e = absurd (cc)
+nth_shows (and_tree u ts) vs at m zero t (of_more {v = v} h hs) e = subst (λ x. Shows x v) (same_Some _ _ e) (alone_shows (down at m) u v h)
+nth_shows (and_tree u ts) vs at m (suc n) t (of_more {vs = us} h hs) e = nth_shows ts us at (suc m) n t hs e
+
+-- a part of a made tree shows the part of what the tree shows
+pub field_shows : {K : Type 0} (c : Ctor) (ts : Trees K) (n : ℕ) (t : Tree K) (v : Value) → nth_tree ts n ≡ Some t → Shows (Made c ts) v → Shows t (nth_part n v)
+field_shows c ts n t v e h =
+    let (vs, is, parts) = reads_made (λ d k. Some no_tys) (h false [] (λ k at. nothing) Owner here) in
+    subst (λ u. Shows t (nth_part n u)) (sym is) (nth_shows ts vs here 0 n t parts e)
+
+-- a box holds what shows what the box shows
+pub held_shows : {K : Type 0} (t : Tree K) (v : Value) → Shows (Boxed t) v → Shows t v
+held_shows t v h = alone_shows (down here 0) t v (reads_boxed (λ d k. Some no_tys) (h false [] (λ k at. nothing) Owner here))
 
 -- a value that a made tree shows is made of values that its parts show
 pub made_shown : {K : Type 0} (Δ : Declarations) (c : Ctor) (ts : Trees K) (v : Value) → Shows (Made c ts) v → (vs : Values) × (v ≡ value.Made c vs)

@@ -19,6 +19,7 @@ use Rattle.mir_ir.specs.declared.body.Head.{Head}
 use Rattle.mir_ir.specs.Body.{block_in}
 use Rattle.mir_ir.specs.Declares.{theory_in}
 use Rattle.mir_ir.specs.Layout.{among, targets, Leads, on, back}
+use Rattle.mir_ir.specs.Paths.{at_end}
 use Rattle.mir_ir.specs.WellFormed.{HasBlock, StatementIsTyped, EndIsTyped, IsTyped, Locals, with, Within, parameters, Labelling, MeetsMoveRows}
 use Rattle.mir_ir.proofs.Taking.{rows_together, CanRun, run, CanEnd, Carries}
 use Rattle.prophecy_logic.specs.Loop.{is_gone}
@@ -137,7 +138,7 @@ more set x inside = by_test (x == 0)
 
 blocks_sound : EachBlock (BlockIsSound cleared sets) cleared.blocks
 blocks_sound = (
-  record { statements = (((bool, (refl, refl), (refl, refl)), refl, λ x h. h), tt); typed = (_, refl); can_end = tt; carries = λ x h. h },
+  record { statements = (((bool, (refl, refl), (bool, refl, at_end)), refl, λ x h. h), tt); typed = (_, refl); can_end = tt; carries = λ x h. h },
   (
     record { statements = tt; typed = ((refl, refl), (_, refl), (_, refl)); can_end = refl; carries = (λ x h. h, λ x h. h) },
     (

@@ -1,5 +1,5 @@
 -- What the simulation is about: a program on the machine, and one of its functions.
-use Rattle.std.proofs.Common.{◌≡◌, ◌∙◌, sym, ap, ℕ, suc, ◌<◌, List, Some, slice_get, take, drop, arith, true}
+use Rattle.std.proofs.Common.{◌≡◌, ◌∙◌, sym, ap, ℕ, suc, ◌<◌, Some, slice_get, take, drop, arith, true}
 use Rattle.std.proofs.lemmas.Option.{slice_get_within, same_Some}
 use Rattle.text_core.specs.declared.name.Name.{Name}
 use Rattle.logic_term.specs.declared.obligation.Contract.{Contract}

@@ -6,10 +6,11 @@ use Rattle.logic_term.specs.Sort.{HasSort, instance, of_int, of_bool}
 use Rattle.logic_term.specs.Ty.{Ty, no_tys}
 use Rattle.logic_term.specs.Value.{Number, Flag}
 use Rattle.mir_ir.specs.declared.place.Lit.TheVariants as lit
+use Rattle.mir_ir.specs.declared.place.Place.{Place}
 use Rattle.mir_ir.specs.declared.place.Operand.{Operand}
 use Rattle.mir_ir.specs.declared.place.Operand.TheVariants.{Copy, Move, Const}
 use Rattle.mir_ir.specs.declared.body.Body.{Body}
-use Rattle.mir_ir.specs.WellFormed.{Locals, OperandHas}
+use Rattle.mir_ir.specs.WellFormed.{Locals, PlaceHas, OperandHas}
 use Rattle.mir_ir.proofs.Taking.{CanTake}
 use Rattle.mir_machine.specs.Tree.{Tree}
 use Rattle.mir_machine.specs.Try.{Yields}
@@ -23,7 +24,7 @@ use Rattle.mir_machine.proofs.TypedTrees.{SameOutside}
 use Rattle.prophecy_logic.specs.Row.{name_of}
 use Rattle.prophecy_sim.proofs.Setup.{Setup, FunctionOf, declarations, local_fits}
 use Rattle.prophecy_sim.proofs.Owned.{fit_shows, fit_sort}
-use Rattle.prophecy_sim.proofs.Operands.{operand_value, Agree, agree_moved}
+use Rattle.prophecy_sim.proofs.Operands.{place_value, operand_value, whole_value, Agree, agree_moved}
 
 module _ {K : Type 0} (s : Setup K) (f : FunctionOf s) where
   abbrev b : Body
@@ -60,9 +61,14 @@ module _ {K : Type 0} (s : Setup K) (f : FunctionOf s) where
       let t = held.slot x ty is_ty in
       fit_sort (declarations s) (instance no_tys ty) t.0 (ρ (name_of b x)) (local_fits s f x ty t.0 is_ty (held.typed x ty t.0 inside is_ty t.1)) (agrees x ty t.0 inside is_ty t.1)
 
+  place_sort : (st : State K) (frame : ℕ) (set : Locals) (ρ : Env) → Holding st frame set → Agree b st frame set ρ → (p : Place) (ty : Ty) → PlaceHas b p ty → set p.local ≡ true →
+      HasSort (declarations s) (place_value b ρ p) (instance no_tys ty)
+  place_sort st frame set ρ held agrees p ty has can =
+      subst (λ v. HasSort (declarations s) v (instance no_tys ty)) (sym (whole_value b ρ p ty has)) (local_sort st frame set ρ held agrees p.local ty has.1 can)
+
   pub operand_sort : (st : State K) (frame : ℕ) (set : Locals) (ρ : Env) → Holding st frame set → Agree b st frame set ρ → (o : Operand) (ty : Ty) → OperandHas b o ty → CanTake set o →
       HasSort (declarations s) (operand_value b ρ o) (instance no_tys ty)
-  operand_sort st frame set ρ held agrees (Copy p) ty has can = local_sort st frame set ρ held agrees p.local ty has.1 can
-  operand_sort st frame set ρ held agrees (Move p) ty has can = local_sort st frame set ρ held agrees p.local ty has.1 can
+  operand_sort st frame set ρ held agrees (Copy p) ty has can = place_sort st frame set ρ held agrees p ty has can
+  operand_sort st frame set ρ held agrees (Move p) ty has can = place_sort st frame set ρ held agrees p ty has can
   operand_sort st frame set ρ held agrees (Const (lit.Int z k)) ty has can = subst (λ t. HasSort (declarations s) (Number z) (instance no_tys t)) (sym has.0) (of_int has.1)
   operand_sort st frame set ρ held agrees (Const (lit.Bool c)) ty has can = subst (λ t. HasSort (declarations s) (Flag c) (instance no_tys t)) (sym has) of_bool

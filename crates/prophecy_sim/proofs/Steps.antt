@@ -7,6 +7,7 @@ use Rattle.logic_term.specs.Ty.{Ty, no_tys}
 use Rattle.mir_ir.specs.declared.statement.StatementKind.{StatementKind}
 use Rattle.mir_ir.specs.declared.statement.StatementKind.TheVariants.{Assign, Dead}
 use Rattle.mir_ir.specs.declared.body.Body.{Body}
+use Rattle.mir_ir.specs.Declares.{theory_in}
 use Rattle.mir_ir.specs.WellFormed.{StatementIsTyped, Locals}
 use Rattle.mir_ir.proofs.Taking.{evaluated, CanRun, run}
 use Rattle.mir_ir.specs.Body.{kind_in, place_ty}
@@ -62,7 +63,7 @@ module _ {K : Type 0} (s : Setup K) (f : FunctionOf s) (n : ℕ) (inside : n ≡
       λ y w is_y d. l.elsewhere (name_of b y) (apart_from s f p.local y ty w has.1 is_y d) (not_new s f y w is_y) in
       let kind : Option IntKind = kind_in (place_ty b no_tys p) in
       let P : State K → Type 0 = After st (Assign p r) set ρ (at_next g ∷ gs) in
-      let shows = took_all_show b ρ a.tys a.have (can_take_all r set can) agrees a.takes.took in
+      let shows = took_all_show b (theory_in (bodies s)) ρ a.tys a.have (can_take_all r set can) agrees a.takes.took in
       let agreed : Agree b u n (evaluated r set) ρ = subst (λ (q : Locals). Agree b u n q ρ) (evaluated_is r set) (took_all_agree b ρ agrees a.takes.took) in
       subst (Quiet P) (sym a.row)
       (quiet_then (λ t. HasType (declarations s) u (instance no_tys ty) t × Shows t (rvalue_value b ρ r)) P (value_of kind span r a.takes.trees) (λ t. write u p t >>= past)

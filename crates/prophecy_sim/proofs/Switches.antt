@@ -1,5 +1,5 @@
 -- A switch: the frame goes on at the label of its place's variant, where the place's local is known to be made of some values.
-use Rattle.std.proofs.Common.{◌≡◌, ◌∙◌, inl, inr, refl, sym, ap, subst, ℕ, zero, suc, ◌+◌, ◌<◌, true, List, [], ◌∷◌, ◌++◌, length, map, Option, Some, None, slice_get, arith}
+use Rattle.std.proofs.Common.{◌≡◌, ◌∙◌, inl, inr, refl, sym, ap, subst, ℕ, zero, suc, ◌+◌, ◌<◌, true, List, [], ◌∷◌, length, map, Option, Some, None, slice_get, arith}
 use Rattle.std.proofs.lemmas.Option.{same_Some}
 use Rattle.text_core.specs.declared.name.Name.{Name}
 use Rattle.text_core.specs.declared.span.Span.{Span}
@@ -13,7 +13,7 @@ use Rattle.logic_term.specs.declared.kinds.Label.{Label}
 use Rattle.logic_term.specs.Laws.{HaveExactly}
 use Rattle.logic_term.specs.Meaning.{Structure, Env, Means, with_value}
 use Rattle.logic_term.specs.Sort.{HasSort, HaveSorts, instance, instances}
-use Rattle.logic_term.specs.Term.{Terms, Term, var, is_equal}
+use Rattle.logic_term.specs.Term.{Terms, var}
 use Rattle.logic_term.specs.TermView.{terms_of}
 use Rattle.logic_term.specs.Theory.{declared, field_ty, fields_of, variant_of}
 use Rattle.logic_term.specs.Ty.{Ty, Tys, adt, no_tys, and_ty}
@@ -35,7 +35,7 @@ use Rattle.mir_ir.proofs.Taking.{CanEnd, Carries}
 use Rattle.mir_machine.specs.Tree.{Tree, Trees}
 use Rattle.mir_machine.specs.Tree as tree
 use Rattle.mir_machine.specs.Frame.{Frame, State}
-use Rattle.mir_machine.specs.Memory.{running, tree_at}
+use Rattle.mir_machine.specs.Memory.{running}
 use Rattle.mir_machine.specs.Step.{Outcome, variant_of as variant_of_tree, switched, end_step}
 use Rattle.mir_machine.specs.Try.{Try, Yields, ◌>>=◌, need}
 use Rattle.mir_machine.specs.Invariant.{Stop, stop_of, stops, local_at}
@@ -53,10 +53,10 @@ use Rattle.prophecy_logic.specs.Prefix.{within, to_variant}
 use Rattle.prophecy_logic.specs.Walk.{seen_before, parameters, types_at, of_parts, of_variant, variant_commands, where_variant, Walk, met}
 use Rattle.prophecy_logic.proofs.Commands.{GoalsHold, goals_moved, goals_first, goals_rest, then_moves}
 use Rattle.prophecy_sim.proofs.Lists.{get_first, decide}
-use Rattle.prophecy_sim.proofs.Setup.{Setup, FunctionOf, move_rows, S, bodies, declarations, own, walked, not_part, IsOutside}
+use Rattle.prophecy_sim.proofs.Setup.{Setup, FunctionOf, move_rows, S, bodies, declarations, own, walked, not_part}
 use Rattle.prophecy_sim.proofs.Owned.{Shows, made_shown}
 use Rattle.prophecy_sim.proofs.Operands.{Agree, agree_moved}
-use Rattle.prophecy_sim.proofs.Memories.{KeepsOutside, Came, came_on}
+use Rattle.prophecy_sim.proofs.Memories.{Came, came_on}
 use Rattle.prophecy_sim.proofs.Standing.{point_of, Standing}
 use Rattle.prophecy_sim.proofs.Stands.{Holding, local_sort}
 use Rattle.prophecy_sim.proofs.Ends.{Continues, SameLocals, Ways, goes_on}

@@ -11,7 +11,7 @@ use Rattle.type_check.specs.Answers.{uncovered_match}
 use Rattle.type_check.specs.FirstBad.{uncovered}
 use Rattle.type_check.specs.Scalars.{is_scalar}
 
-scalar_is_flat : (t : Ty) → is_scalar t ≡ true → IsFlatType t
+pub scalar_is_flat : (t : Ty) → is_scalar t ≡ true → IsFlatType t
 scalar_is_flat (int k) q = tt
 scalar_is_flat bool q = tt
 scalar_is_flat (tuple no_tys) q = tt

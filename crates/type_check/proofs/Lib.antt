@@ -25,8 +25,6 @@ pub mod StatementLists
 pub mod Targets
 pub mod TupleTypes
 pub mod TypedParts
-pub mod Unrun
-pub mod UnrunParts
 pub mod Whole
 pub mod WrittenArms
 pub mod WrittenTypes

@@ -1,5 +1,5 @@
 -- What holds of every source.
-use Rattle.std.specs.Prelude.{◌≡◌, List, Option, Ok, None}
+use Rattle.std.specs.Prelude.{◌≡◌, List, Option, Ok}
 use Rattle.logic_term.specs.declared.declaration.AdtDecl.{AdtDecl}
 use Rattle.logic_term.specs.Ty.{Ty}
 use Rattle.source_trees.specs.declared.item.Item.{Item}
@@ -8,11 +8,9 @@ use Rattle.type_check.specs.declared.program.TypedProgram.{TypedProgram}
 use Rattle.type_check.specs.declared.scope.Variable.{Variable}
 use Rattle.type_check.specs.Around.{Around, MayAsk, surroundings, types}
 use Rattle.type_check.specs.Checked.{AllGood, checked}
-use Rattle.type_check.specs.Plain.{ProgramIsPlain}
 use Rattle.type_check.specs.Setting.{Setting}
 use Rattle.type_check.specs.TypedExpr.{TypedExpr}
 use Rattle.type_check.specs.Typing.{typed}
-use Rattle.type_check.specs.Unrun.{first_unrun}
 use Rattle.type_check.specs.WellTyped.{IsWellTyped, ProgramFits}
 
 -- the program that a source comes to fits
@@ -26,10 +24,3 @@ CheckedProgramsAreGood = (ds : List AdtDecl) (is : List Item) (p : TypedProgram)
 -- what an expression comes to, where the types around it are built and one that is expected is, fits
 abbrev pub ExpressionsFit : Type 0
 ExpressionsFit = (σ : Setting) (Γ : List Variable) (e : Expr) (t : Option Ty) (r : TypedExpr) → Around σ Γ → MayAsk t → typed σ Γ e t ≡ Ok r → IsWellTyped (surroundings σ) (types Γ) r
-
--- a program is plain where nothing in it does not run yet, and only there
-abbrev pub PlainProgramsRun : Type 0
-PlainProgramsRun = (p : TypedProgram) → ProgramIsPlain p → first_unrun p ≡ None
-
-abbrev pub ProgramsThatRunArePlain : Type 0
-ProgramsThatRunArePlain = (p : TypedProgram) → first_unrun p ≡ None → ProgramIsPlain p

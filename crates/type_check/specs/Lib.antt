@@ -11,7 +11,6 @@ pub mod Functions
 pub mod Laws
 pub mod Leaves
 pub mod Literals
-pub mod Plain
 pub mod Rules
 pub mod Scalars
 pub mod Scope
@@ -23,7 +22,6 @@ pub mod TypedExprFalls
 pub mod TypedExprView
 pub mod Types
 pub mod Typing
-pub mod Unrun
 pub mod VariableNames
 pub mod WellTyped
 pub mod Written

@@ -2,7 +2,7 @@
 //! contract of `check` speaks.
 
 ghost use Rattle.type_check.specs.Causes.{RefusalsHaveCauses};
-ghost use Rattle.type_check.specs.Laws.{CheckedProgramsFit, CheckedProgramsAreGood, ExpressionsFit, PlainProgramsRun, ProgramsThatRunArePlain};
+ghost use Rattle.type_check.specs.Laws.{CheckedProgramsFit, CheckedProgramsAreGood, ExpressionsFit};
 ghost use Rattle.type_check.specs.Rules.{TypedByRules, TypingIsOne};
 
 /// The program that a source comes to fits, and no clause, no invariant and no match of it is refused.
@@ -15,12 +15,6 @@ pub fn checked_programs_fit()
 /// that its place asks for.
 pub fn typed_expressions_fit()
     ensures { ExpressionsFit }
-{}
-
-/// Where nothing of a program is found that does not run yet, it is over integers, truth values and unit alone, and only there.
-pub fn programs_that_run_are_plain()
-    ensures plain { ProgramsThatRunArePlain }
-    ensures runs { PlainProgramsRun }
 {}
 
 /// A refusal of program code has a cause at the expression or at a part of it: E05 at a name that means no variable or no

@@ -25,7 +25,6 @@ mod naming;
 mod operands;
 mod program;
 mod refusal;
-mod running;
 mod scalars;
 mod scope;
 mod selecting;
@@ -42,10 +41,9 @@ pub use checking::check;
 pub use covering::patterns_of;
 pub use elaborate::{answer_name, variable_name};
 pub use laws::{
-    checked_programs_fit, expressions_are_typed_by_rules, programs_that_run_are_plain,
-    refusals_have_causes, typed_expressions_fit,
+    checked_programs_fit, expressions_are_typed_by_rules, refusals_have_causes,
+    typed_expressions_fit,
 };
 pub use leaving::{all_arms_leave, leaves};
 pub use program::{ClauseKind, Signature, TypedClause, TypedFunction, TypedProgram};
-pub use running::first_unrun;
 pub use typed::{TypedArm, TypedExpr, TypedNode, TypedStmt};

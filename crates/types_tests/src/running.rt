@@ -1,11 +1,12 @@
 //! What of a program does not run yet, from the texts of sources.
 use declared_types::declare;
 use rs_syntax::parse;
+use runnable::first_unrun;
 use source_trees::Item;
 use std::alloc::Global;
 use std::test::Fail;
 use text_core::{Names, PassError, Span};
-use type_check::{check, first_unrun};
+use type_check::check;
 
 /// A source, and the place of the first function or expression that does not run.
 type Row = (&'static [u8], Option<(u32, u32)>);
@@ -13,7 +14,7 @@ type Row = (&'static [u8], Option<(u32, u32)>);
 fn first_of(alloc: Global, items: &[Item]) -> Result<Option<Span>, PassError> {
     let declared = declare(alloc, items)?;
     let program = check(alloc, items, &declared)?;
-    Ok(first_unrun(&program))
+    Ok(first_unrun(alloc, declared.table.decls(), &program)?)
 }
 
 /// Whether the code of the source is answered so.
@@ -33,64 +34,84 @@ fn is_right(alloc: Global, row: &Row) -> bool {
     }
 }
 
-const FIRST_UNRUN: [Row; 22] = [
+const FIRST_UNRUN: [Row; 27] = [
     (b"fn f() {}", None),
     (b"fn f(x: i32) -> bool { let y = x + 1; y < 2 }", None),
     (b"struct P { x: i32 } fn f() -> i32 { 1 }", None),
     (b"struct P { x: i32 } fn g(p: P) {}", Some((23, 24))),
-    (b"fn g() -> (i32, u8) { (1, 2) }", Some((3, 4))),
     (
-        b"fn f() {} fn g(t: (i32, u8)) { t.0; } fn h(t: (u8, u8)) {}",
-        Some((13, 14)),
+        b"#[derive(Clone, Copy)] struct P { x: i32 } fn g(p: P) {}",
+        None,
     ),
-    (b"fn f() { let t = (1, 2); }", Some((17, 23))),
-    (b"fn f() { let t = (); }", Some((17, 19))),
-    (b"fn f() -> i32 { (1, true).0 }", Some((16, 25))),
-    (b"fn f(x: i32) -> i32 { x + (1, 2).0 }", Some((26, 32))),
+    (b"fn g() -> (i32, u8) { (1, 2) }", None),
     (
-        b"fn f() -> i32 { ((1, 2).0 + 3) + (4, 5).1 }",
-        Some((17, 23)),
+        b"struct S; fn f() {} fn g(t: (i32, S)) { t.0; } fn h(t: (S, u8)) {}",
+        Some((23, 24)),
+    ),
+    (b"struct S; fn f() { let t = (1, S); }", Some((31, 32))),
+    (b"fn f() { let t = (); }", None),
+    (
+        b"fn f(x: Option<u8>) -> Option<(u8, bool)> { let y = x; None }",
+        None,
+    ),
+    (b"fn f(x: Box<u8>) {}", Some((3, 4))),
+    (b"struct S; fn f() -> i32 { (1, S).0 }", Some((30, 31))),
+    (
+        b"struct S; fn f(x: i32) -> i32 { x + (1, S).0 }",
+        Some((40, 41)),
     ),
     (
-        b"fn f() -> i32 { (3 + (1, 2).0) + (4, 5).1 }",
-        Some((21, 27)),
+        b"struct S; fn f() -> i32 { ((1, S).0 + 3) + (4, S).0 }",
+        Some((31, 32)),
     ),
     (
-        b"fn f(x: i32) { if x < 1 { } else { while (1, true).1 { } } }",
-        Some((41, 50)),
+        b"struct S; fn f() -> i32 { (3 + (1, S).0) + (4, S).0 }",
+        Some((35, 36)),
     ),
     (
-        b"fn f() { return; } fn g() { f(); ((1, 2), 3); }",
-        Some((34, 40)),
+        b"struct S; fn f(x: i32) { if x < 1 { } else { while (true, S).0 { } } }",
+        Some((58, 59)),
+    ),
+    (
+        b"struct S; fn f() { return; } fn g() { f(); ((1, S), 3); }",
+        Some((48, 49)),
     ),
     (
         b"struct P { x: i32 } fn f() -> i32 { P { x: 1 }.x }",
         Some((36, 46)),
     ),
+    (
+        b"#[derive(Copy)] struct P { x: i32 } fn f() -> i32 { P { x: 1 }.x }",
+        None,
+    ),
     (b"fn f(x: u8) -> u32 { x as u16 as u32 + 1 }", None),
     (
-        b"fn f() -> u16 { (1u8, 2).0 as u16 as u16 }",
-        Some((16, 24)),
+        b"struct S; fn f() -> u16 { (1u8, S).0 as u16 as u16 }",
+        Some((32, 33)),
     ),
     (
-        b"fn f(x: u8) -> u16 { x as u16 + (1u8, 2).0 as u16 }",
-        Some((32, 40)),
+        b"struct S; fn f(x: u8) -> u16 { x as u16 + (1u8, S).0 as u16 }",
+        Some((48, 49)),
     ),
     (
         b"fn f(b: bool) -> u8 { match b { true => 1, false => 2 } }",
         None,
     ),
     (
-        b"fn f(n: u8) -> u8 { if let 3 = n { n } else { (4, n).1 } }",
-        Some((46, 52)),
+        b"struct S; fn f(n: u8) -> u8 { if let 3 = n { n } else { (n, S).0 } }",
+        Some((60, 61)),
     ),
     (
         b"fn f() -> u8 { match (1u8, true).1 { true => 1, _ => 2 } }",
-        Some((21, 32)),
+        Some((15, 56)),
     ),
     (
-        b"fn f(b: bool) { let t = match b { _ => (1u8, 2u8) }; }",
-        Some((39, 49)),
+        b"fn f(t: (u8, bool)) -> u8 { match { t.1 } { true => t.0, _ => 2 } }",
+        None,
+    ),
+    (
+        b"struct S; fn f(b: bool) { let t = match b { _ => (1u8, S) }; }",
+        Some((55, 56)),
     ),
 ];
 

@@ -15,7 +15,7 @@ use Rattle.type_check.specs.Checked.{checked}
 use Rattle.declared_types.specs.DeclaredTypes.{declared_types}
 use Rattle.declared_types.specs.Declaring.{checks}
 use Rattle.type_check.specs.Answers.{unbuilt}
-use Rattle.type_check.specs.Unrun.{first_unrun}
+use Rattle.runnable.specs.Unrun.{first_unrun}
 use Rattle.mir_build.specs.Lowering.{LowerTo, HasMoreBlocks}
 use Rattle.mir_build.specs.Whole.{HaveFewBlocks}
 use Rattle.mir_build.proofs.OneBody.{programs_lower_in_one_way, blocks_are_counted}
@@ -73,8 +73,9 @@ module _ (source : List ℕ) where
       first_does_not_hold (declared_types items) (checks items) error (subst AreInOrder (same_items t table a.items items a.has has) a.in_order) first
   typed_not_refused t p error a (IsRefused.by_types {table} {items} has order is) = ok_err (sym a.is_typed ∙ ap typing (same_items t table a.items items a.has has) ∙ is)
   typed_not_refused t p error a (IsRefused.by_running {table} {items} {typed} {place} has order is stops code) =
-      let same : p ≡ typed = same_ok (sym a.is_typed ∙ ap typing (same_items t table a.items items a.has has) ∙ is) in
-      none_some (sym a.all_run ∙ ap first_unrun same ∙ stops)
+      let read = same_items t table a.items items a.has has in
+      let same : p ≡ typed = same_ok (sym a.is_typed ∙ ap typing read ∙ is) in
+      none_some (sym a.all_run ∙ ap (λ x. first_unrun (declared_types x) p) read ∙ ap (first_unrun (declared_types items)) same ∙ stops)
 
   pub one_refusal : (one other : SourceError) → IsRefused source one → IsRefused source other → one ≡ other
   one_refusal one other (IsRefused.by_form h) (IsRefused.by_form g) = one_error [] source one_place_at_first one other h g
@@ -101,8 +102,9 @@ module _ (source : List ℕ) where
   one_refusal one other (IsRefused.by_running {table = t} {items = items} has order is stops code) (IsRefused.by_types {table = u} {items = others} had also was) =
       absurd (ok_err (sym is ∙ ap typing (same_items t u items others has had) ∙ was))
   one_refusal one other (IsRefused.by_running {table = t} {items = items} {typed = p} has order is stops code) (IsRefused.by_running {table = u} {items = others} {typed = q} had also was ends named) =
-      let same : p ≡ q = same_ok (sym is ∙ ap typing (same_items t u items others has had) ∙ was) in
-      code ∙ ap unbuilt (some_one (sym stops ∙ ap first_unrun same ∙ ends)) ∙ sym named
+      let read = same_items t u items others has had in
+      let same : p ≡ q = same_ok (sym is ∙ ap typing read ∙ was) in
+      code ∙ ap unbuilt (some_one (sym stops ∙ ap (λ x. first_unrun (declared_types x) p) read ∙ ap (first_unrun (declared_types others)) same ∙ ends)) ∙ sym named
 
   -- ---- two lowerings
 

@@ -37,9 +37,9 @@ use Rattle.type_check.specs.Answers.{unbuilt, Refuses as TypesRefuse}
 use Rattle.type_check.specs.Checked.{checked}
 use Rattle.declared_types.specs.DeclaredTypes.{declared_types}
 use Rattle.declared_types.specs.Declaring.{checks}
-use Rattle.type_check.specs.Plain.{EachIsPlain}
-use Rattle.type_check.specs.Unrun.{first_unrun}
-use Rattle.type_check.proofs.Unrun.{each_is_plain}
+use Rattle.runnable.specs.Plain.{EachIsPlain}
+use Rattle.runnable.specs.Unrun.{first_unrun}
+use Rattle.runnable.proofs.Unrun.{each_is_plain}
 use Rattle.type_check.specs.WellTyped.{ProgramFits, signatures}
 use Rattle.mir_build.specs.declared.lowered.Lowered.{Lowered}
 use Rattle.mir_build.specs.Laws.{Lowers}
@@ -97,12 +97,17 @@ types_refused source table items ds (errors.Source e) has (same, order) is = IsR
 types_refused source table items ds (errors.Limit l) has declares is = absurd is
 types_refused source table items ds errors.NoMemory has declares is = tt
 
-pub typed_as : (source : List ℕ) (table : List (List ℕ)) (items : List Item) (typed : TypedProgram) (ds : List AdtDecl) → HasItems source table items → (ds ≡ declared_types items) × AreInOrder items → checked ds items ≡ Ok typed → first_unrun typed ≡ None → IsChecked source table typed ds
-typed_as source table items typed ds has (same, order) is run = record { typed_as = record { items = items; has = has; in_order = order; is_typed = subst (λ (x : List AdtDecl). checked x items ≡ Ok typed) same is; all_run = run }; declares = same }
+pub typed_as : (source : List ℕ) (table : List (List ℕ)) (items : List Item) (typed : TypedProgram) (ds : List AdtDecl) → HasItems source table items → (ds ≡ declared_types items) × AreInOrder items → checked ds items ≡ Ok typed
+    → first_unrun ds typed ≡ None → IsChecked source table typed ds
+typed_as source table items typed ds has (same, order) is run = record {
+  typed_as = record { items = items; has = has; in_order = order; is_typed = subst (λ (x : List AdtDecl). checked x items ≡ Ok typed) same is; all_run = subst (λ (x : List AdtDecl). first_unrun x typed ≡ None) same run };
+  declares = same;
+}
 
-pub running_refused : (source : List ℕ) (table : List (List ℕ)) (items : List Item) (typed : TypedProgram) (ds : List AdtDecl) (place : Span) → HasItems source table items → (ds ≡ declared_types items) × AreInOrder items → checked ds items ≡ Ok typed → first_unrun typed ≡ Some place
+pub running_refused : (source : List ℕ) (table : List (List ℕ)) (items : List Item) (typed : TypedProgram) (ds : List AdtDecl) (place : Span) → HasItems source table items → (ds ≡ declared_types items) × AreInOrder items → checked ds items ≡ Ok typed
+    → first_unrun ds typed ≡ Some place
     → RefusesSource source (refusals.Source (unbuilt place))
-running_refused source table items typed ds place has (same, order) is stops = IsRefused.by_running has order (subst (λ (x : List AdtDecl). checked x items ≡ Ok typed) same is) stops refl
+running_refused source table items typed ds place has (same, order) is stops = IsRefused.by_running has order (subst (λ (x : List AdtDecl). checked x items ≡ Ok typed) same is) (subst (λ (x : List AdtDecl). first_unrun x typed ≡ Some place) same stops) refl
 
 pub lowered_with : (table : List (List ℕ)) (ds es : List AdtDecl) (typed : TypedProgram) (l : Lowered) → ds ≡ es → IsLowered table ds typed l → IsLowered table es typed l
 lowered_with table ds es typed l same lowered = subst (λ (x : List AdtDecl). IsLowered table x typed l) same lowered
@@ -114,8 +119,10 @@ lowered_as source table typed ds l h = subst (λ (x : List AdtDecl). IsLowered t
 pub fits_of : (source : List ℕ) (table : List (List ℕ)) (typed : TypedProgram) → (t : IsTypedAs source table typed) → ProgramFits (declared_types t.items) typed
 fits_of source table typed t = typed_program_fits (declared_types t.items) t.items typed t.is_typed
 
-pub plain_of : (source : List ℕ) (table : List (List ℕ)) (typed : TypedProgram) → IsTypedAs source table typed → EachIsPlain typed.functions
-plain_of source table typed t = each_is_plain typed.functions t.all_run
+pub plain_of : (source : List ℕ) (table : List (List ℕ)) (typed : TypedProgram) (ds : List AdtDecl) → IsChecked source table typed ds → EachIsPlain ds typed.functions
+plain_of source table typed ds h =
+    let t = h.typed_as in
+    subst (λ (x : List AdtDecl). EachIsPlain x typed.functions) (sym h.declares) (each_is_plain (declared_types t.items) typed.functions t.all_run)
 
 pub lowering_refused : (source : List ℕ) (table : List (List ℕ)) (typed : TypedProgram) (e : PassError) → IsTypedAs source table typed → FailsFor (HasMoreBlocks typed 4096) e → RefusesSource source (refusal_of e)
 lowering_refused source table typed (errors.Source e) t fails = absurd fails
@@ -150,7 +157,7 @@ module _ (table : List (List ℕ)) where
       let inside : f < length cs.of = subst (λ (k : ℕ). f < k) (sym same) (within bs.bodies f call.0.0 call.0.2) in
       (got cs.of f inside, (call.0.1, call.0.5.1))
 
-  pub walkable : (ds : List AdtDecl) (typed : TypedProgram) (l : Lowered) → IsLowered table ds typed l → ProgramFits ds typed → EachIsPlain typed.functions → CanWalkAll l
+  pub walkable : (ds : List AdtDecl) (typed : TypedProgram) (l : Lowered) → IsLowered table ds typed l → ProgramFits ds typed → EachIsPlain ds typed.functions → CanWalkAll l
   walkable ds typed l lowered fits plain =
       let lowers : Lowers table ds typed.functions l.bodies l.contracts l.gone = record { lowers = lowered; fits = fits; plain = plain } in
       let sizes = as_many ds (signatures typed.functions) 0 typed.functions l.bodies.bodies l.contracts.of l.gone lowered.each in
@@ -166,7 +173,7 @@ module _ (table : List (List ℕ)) where
         };
       }
 
-  pub laid_out : (ds : List AdtDecl) (typed : TypedProgram) (l : Lowered) → IsLowered table ds typed l → ProgramFits ds typed → EachIsPlain typed.functions → AreLaidOut l.bodies
+  pub laid_out : (ds : List AdtDecl) (typed : TypedProgram) (l : Lowered) → IsLowered table ds typed l → ProgramFits ds typed → EachIsPlain ds typed.functions → AreLaidOut l.bodies
   laid_out ds typed l lowered fits plain n b is = bodies_are_laid_out table ds typed.functions l.bodies l.contracts l.gone (record { lowers = lowered; fits = fits; plain = plain }) n b is
 
 -- ---- one function

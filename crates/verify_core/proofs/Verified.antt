@@ -1,5 +1,5 @@
 -- What is derived is true; and each function that is verified is good.
-use Rattle.std.proofs.Common.{◌≡◌, sym, subst, ℕ, Bool, true, false, List, [], ◌∷◌, Some, slice_get, ◌∙◌, true≢false}
+use Rattle.std.proofs.Common.{◌≡◌, refl, sym, subst, ℕ, Bool, true, false, List, [], ◌∷◌, Some, slice_get, ◌∙◌, true≢false}
 use Rattle.logic_term.specs.declared.declaration.AdtDecl.{AdtDecl}
 use Rattle.logic_term.specs.declared.obligation.Contract.{Contract}
 use Rattle.logic_term.specs.declared.obligation.Obligation.{Obligation}
@@ -25,7 +25,7 @@ use Rattle.source_trees.specs.declared.item.Item.{Item}
 use Rattle.type_check.specs.declared.program.TypedProgram.{TypedProgram}
 use Rattle.type_check.specs.Checked.{checked}
 use Rattle.type_check.specs.WellTyped.{ProgramFits}
-use Rattle.type_check.proofs.Unrun.{each_is_plain}
+use Rattle.runnable.proofs.Unrun.{each_is_plain}
 use Rattle.type_check.proofs.Whole.{answered_fits}
 use Rattle.std.specs.Prelude.{Ok}
 use Rattle.prophecy_sim.specs.declared.node.Node.TheVariants.{Function}
@@ -59,7 +59,7 @@ verified_at ps p f false tells e = absurd (true≢false (sym e))
 lowering : (source : List ℕ) (p : Program) → (prepared : IsPrepared source p) → Lowers p.names (declared_types prepared.is_typed.items) prepared.typed.functions p.bodies p.contracts prepared.gones
 lowering source p prepared =
     let t = prepared.is_typed in
-    record { lowers = prepared.lowers; fits = typed_program_fits (declared_types t.items) t.items prepared.typed t.is_typed; plain = each_is_plain prepared.typed.functions t.all_run }
+    record { lowers = prepared.lowers; fits = typed_program_fits (declared_types t.items) t.items prepared.typed t.is_typed; plain = each_is_plain (declared_types t.items) prepared.typed.functions t.all_run }
 
 -- no proper call of a function of an accepted source is stuck
 pub accepted_is_never_stuck : (source : List ℕ) (p : Program) → IsPrepared source p → (Θ : Theory) (f : ℕ) (θ : Tys) (args held : List (Tree (Unit {0}))) (b : Body) (met : List Met) → IsProper Θ p.bodies f θ args held b met
@@ -102,5 +102,5 @@ module _ (source : List ℕ) (p : Program) (prepared : IsPrepared source p) wher
       let lowers = lowering source p prepared in
       let all : IsVerified ps p f = verified_at ps p f line.verified (verdict.lines.told f line is_line) verified in
       true_makes_good (declared_of p) (program_of p.bodies p.contracts prepared.gones) (labelling p.names (declared_types prepared.is_typed.items) prepared.typed.functions p.bodies p.contracts prepared.gones lowers)
-      (functions p.names (declared_types prepared.is_typed.items) prepared.typed.functions p.bodies p.contracts prepared.gones lowers) f c is_contract
+      (functions p.names (declared_types prepared.is_typed.items) prepared.typed.functions p.bodies p.contracts prepared.gones lowers prepared.is_typed.items refl prepared.is_typed.in_order) f c is_contract
       (λ n b d reaches is_body is_d. owed_are_true ps n b d is_body is_d (all (Function n) reaches))

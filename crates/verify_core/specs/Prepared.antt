@@ -23,7 +23,7 @@ use Rattle.type_check.specs.Checked.{checked}
 use Rattle.declared_types.specs.DeclaredTypes.{declared_types}
 use Rattle.declared_types.specs.Declaring.{checks}
 use Rattle.type_check.specs.Answers.{unbuilt}
-use Rattle.type_check.specs.Unrun.{first_unrun}
+use Rattle.runnable.specs.Unrun.{first_unrun}
 use Rattle.mir_build.specs.Lowering.{LowerTo, HasMoreBlocks}
 use Rattle.mir_build.specs.Whole.{HaveFewBlocks}
 use Rattle.verify_core.specs.declared.fault.Refusal.{Refusal}
@@ -68,7 +68,7 @@ pub record IsTypedAs (source : List ℕ) (table : List (List ℕ)) (typed : Type
   pub has : HasItems source table items
   pub in_order : AreInOrder items
   pub is_typed : checked (declared_types items) items ≡ Ok typed
-  pub all_run : first_unrun typed ≡ None
+  pub all_run : first_unrun (declared_types items) typed ≡ None
 
 -- ---- obligations
 
@@ -137,7 +137,8 @@ pub data IsRefused (source : List ℕ) (error : SourceError) : Type 0 where
   by_form : IsSourceError [] source (errors.Source error) → IsRefused source error
   by_declarations : {table : List (List ℕ)} {items : List Item} → HasItems source table items → IsFirst (declared_types items) (checks items) error → IsRefused source error
   by_types : {table : List (List ℕ)} {items : List Item} → HasItems source table items → AreInOrder items → checked (declared_types items) items ≡ Err error → IsRefused source error
-  by_running : {table : List (List ℕ)} {items : List Item} {typed : TypedProgram} {place : Span} → HasItems source table items → AreInOrder items → checked (declared_types items) items ≡ Ok typed → first_unrun typed ≡ Some place → error ≡ unbuilt place → IsRefused source error
+  by_running : {table : List (List ℕ)} {items : List Item} {typed : TypedProgram} {place : Span} → HasItems source table items → AreInOrder items → checked (declared_types items) items ≡ Ok typed
+      → first_unrun (declared_types items) typed ≡ Some place → error ≡ unbuilt place → IsRefused source error
 
 -- a quantity of the source is past its bound, and those that are counted before it are not
 pub data IsPastLimit (source : List ℕ) : Limit → Type 0 where

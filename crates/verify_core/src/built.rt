@@ -14,7 +14,7 @@ use std::alloc::Global;
 use text_core::{Code, Items, Names, PassError, SourceError, Span};
 
 /// The forms that are built. Whoever builds a form puts its word here.
-pub(crate) const BUILT: [Form; 56] = [
+pub(crate) const BUILT: [Form; 67] = [
     // ---- declared types
     Form::Struct,
     Form::Enum,
@@ -30,6 +30,8 @@ pub(crate) const BUILT: [Form; 56] = [
     Form::Ensures,
     // ---- types and patterns
     Form::MachineType,
+    Form::NamedType,
+    Form::TupleType,
     // A type in terms alone: elsewhere `type_check` refuses it.
     Form::MathIntType,
     Form::LetMutable,
@@ -48,6 +50,9 @@ pub(crate) const BUILT: [Form; 56] = [
     Form::NegativeTerm,
     Form::NotTerm,
     Form::ViewTerm,
+    Form::FieldTerm,
+    Form::PartTerm,
+    Form::TupleTerm,
     Form::BinaryTerm,
     Form::IfTerm,
     Form::Forall,
@@ -67,6 +72,11 @@ pub(crate) const BUILT: [Form; 56] = [
     Form::Integer,
     Form::Truth,
     Form::Name,
+    Form::Path,
+    Form::Literal,
+    Form::Tuple,
+    Form::Field,
+    Form::Part,
     Form::Block,
     Form::If,
     Form::IfLet,
@@ -80,6 +90,8 @@ pub(crate) const BUILT: [Form; 56] = [
     // Its type is of any built form: `type_check` refuses what is no integer.
     Form::Cast,
     Form::Call,
+    // A path is what makes a value: `type_check` refuses what else is called.
+    Form::OtherCall,
     // The closure behind it is not built, and is what is refused.
     Form::ClosureInvariant,
 ];

@@ -23,9 +23,10 @@ use mir_ir::{Bodies, Resolves};
 use proof_kernel::Tables;
 use prophecy_sim::Node;
 use rs_types::AdtTable;
+use runnable::first_unrun;
 use std::alloc::Global;
 use text_core::{Code, Items, Limit, LimitKind, Names, NoMemory, SourceError, Span};
-use type_check::{TypedProgram, check, first_unrun};
+use type_check::{TypedProgram, check};
 use wp_gen::{OBLIGATIONS, Walk, check_paths, counted_obligations, room_after};
 
 /// The most bytes of a source.
@@ -58,7 +59,8 @@ fn typed_source(
     let items = built_items(alloc, source, names)?;
     let declared = declare(alloc, items.as_slice())?;
     let typed = check(alloc, items.as_slice(), &declared)?;
-    match first_unrun(&typed) {
+    let unrun = first_unrun(alloc, declared.table.decls(), &typed)?;
+    match unrun {
         None => Ok((typed, declared.table)),
         Some(place) => Err(not_running(place)),
     }

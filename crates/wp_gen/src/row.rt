@@ -3,10 +3,10 @@ ghost use Rattle.std.specs.Prelude.{◌≡◌, ◌∷◌, [], ◌++◌, map, IfO
 ghost use Rattle.logic_term.specs.Ty.{math_int};
 ghost use Rattle.logic_term.specs.Term.{is_at_most, is_equal, lit};
 ghost use Rattle.mir_ir.specs.Body.{kind_of, kind_in};
-ghost use Rattle.prophecy_logic.specs.Row.{value_name, name_of, operand_term, integer_term, in_range, is_signed, not_zero, not_least_by_minus_one, operation, division, overflow, if_signed, goals_of_operation, goals_of_kind, goals_of};
+ghost use Rattle.prophecy_logic.specs.Row.{value_name, name_of, part_at, place_term, operand_term, integer_term, in_range, is_signed, not_zero, not_least_by_minus_one, operation, division, overflow, if_signed, goals_of_operation, goals_of_kind, goals_of};
 
 use logic_term::{Term, Ty, TyNode};
-use mir_ir::{Body, Lit, Operand, Rvalue, StatementKind};
+use mir_ir::{Body, Lit, Operand, Place, Proj, Rvalue, StatementKind};
 use prophecy_logic::{Goal, Operation};
 use source_kinds::{ArithOp, BinaryOp, IntKind};
 use std::alloc::Global;
@@ -31,12 +31,41 @@ pub(crate) fn name_of(body: &Body, local: u32) -> Name
     }
 }
 
+/// What one step of a path leads to. A box is what it holds.
+fn step_into(alloc: Global, whole: Term, step: Proj) -> Result<Term, NoMemory>
+    ensures { IfOk result (λ t. t ≡ part_at whole (step ∷ [])) }
+{
+    match step {
+        Proj::Field(number) => Term::field(alloc, whole, number),
+        Proj::Variant(_) => Ok(whole),
+        Proj::Deref => Ok(whole),
+    }
+}
+
+/// The part of the term at the end of the path.
+fn part_at(alloc: Global, whole: Term, path: &[Proj]) -> Result<Term, NoMemory>
+    ensures { IfOk result (λ t. t ≡ part_at whole path.now) }
+{
+    let mut part = whole;
+    for step in path {
+        part = step_into(alloc, part, *step)?;
+    }
+    Ok(part)
+}
+
+fn place_term(alloc: Global, body: &Body, place: &Place) -> Result<Term, NoMemory>
+    ensures { IfOk result (λ t. t ≡ place_term body.now place.now) }
+{
+    let whole = Term::var(alloc, name_of(body, place.local))?;
+    part_at(alloc, whole, place.path.as_slice())
+}
+
 pub(crate) fn operand_term(alloc: Global, body: &Body, operand: &Operand) -> Result<Term, NoMemory>
     ensures { IfOk result (λ t. t ≡ operand_term body.now operand.now) }
 {
     match operand {
-        Operand::Copy(place) => Term::var(alloc, name_of(body, place.local)),
-        Operand::Move(place) => Term::var(alloc, name_of(body, place.local)),
+        Operand::Copy(place) => place_term(alloc, body, place),
+        Operand::Move(place) => place_term(alloc, body, place),
         Operand::Const(Lit::Int(number, kind)) => Term::lit(alloc, *number, Ty::int(*kind)),
         Operand::Const(Lit::Bool(holds)) => Term::truth(alloc, *holds),
     }

@@ -223,14 +223,14 @@ const NOT_BUILT: [(&[u8], &[u8]); 23] = [
         b"fn f(x: u32) { match x { (y, z) => {} } }",
         b"error E20 25..26 line 1\n",
     ),
-    (b"fn f() { loop { (1, 2); } }", b"error E20 16..17 line 1\n"),
-    (b"fn f(x: u32) { x.y; }", b"error E20 15..16 line 1\n"),
+    (b"fn f() { loop { a.b(); } }", b"error E20 16..17 line 1\n"),
+    (b"fn f(x: u32) { x.y(); }", b"error E20 15..16 line 1\n"),
     (b"fn f() { let (a, b) = 1; }", b"error E20 13..14 line 1\n"),
     (
         b"fn f(x: i32) -> u8 { x as &u8 }",
         b"error E20 26..27 line 1\n",
     ),
-    (b"fn f() { return (1, 2) }", b"error E20 16..17 line 1\n"),
+    (b"fn f() { return a.b() }", b"error E20 16..17 line 1\n"),
     // Behind what is passed over, and attributes at their `#`.
     (
         b"use std::mem; pub trait T {}",
@@ -257,15 +257,15 @@ const NOT_BUILT: [(&[u8], &[u8]); 23] = [
         b"error E20 15..27 line 1\n",
     ),
     (
-        b"#[requires(exists<i: S> true)] fn f(x: u32) {}",
+        b"#[requires(exists<i: &S> true)] fn f(x: u32) {}",
         b"error E20 21..22 line 1\n",
     ),
     (
         b"#[requires(x == 1 && MutRef(x, x) == x)] fn f(x: u32) {}",
         b"error E20 21..27 line 1\n",
     ),
-    (b"fn f() { let x = (1, 2); }", b"error E20 17..18 line 1\n"),
-    (b"fn f() { (); }", b"error E20 9..10 line 1\n"),
+    (b"fn f() { let x = a.b(); }", b"error E20 17..18 line 1\n"),
+    (b"fn f() { *x; }", b"error E20 9..10 line 1\n"),
     // A promise before a `use` line is none of the function behind it.
     (
         b"#[requires(false)] use std::mem; fn f() {}",

@@ -1,4 +1,4 @@
-use Rattle.mir_build.proofs.Taking.{is_copied_by}
+use Rattle.runnable.proofs.CopyDecided.{is_copied_by}
 use Rattle.mir_build.proofs.operand.is_copied.Goals as goal
 
 pub returns : goal.returns

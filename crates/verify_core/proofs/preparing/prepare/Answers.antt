@@ -17,7 +17,7 @@ check_all_paths-requires c =
     laid_out c.typed_source.new.names c.in_ok-typed.table c.in_ok-typed.typed c.in_ok-lowered.lowered
     (lowered_with c.typed_source.new.names c.into_decls.result c.in_ok-typed.table c.in_ok-typed.typed c.in_ok-lowered.lowered c.into_decls.ensures c.in_ok-lowered.ensures.lowered)
     c.in_ok-typed.ensures.fits
-    (plain_of c.args.source.now c.typed_source.new.names c.in_ok-typed.typed c.in_ok-typed.ensures.ok.typed_as)
+    (plain_of c.args.source.now c.typed_source.new.names c.in_ok-typed.typed c.in_ok-typed.table c.in_ok-typed.ensures.ok)
 
 pub returns-in_err-check_all_paths-clause-refused : goal.returns-in_err-check_all_paths-clause-refused
 returns-in_err-check_all_paths-clause-refused c =
@@ -31,7 +31,7 @@ check_obligations-requires c =
     walkable c.typed_source.new.names c.in_ok-typed.table c.in_ok-typed.typed c.in_ok-lowered.lowered
     (lowered_with c.typed_source.new.names c.into_decls.result c.in_ok-typed.table c.in_ok-typed.typed c.in_ok-lowered.lowered c.into_decls.ensures c.in_ok-lowered.ensures.lowered)
     c.in_ok-typed.ensures.fits
-    (plain_of c.args.source.now c.typed_source.new.names c.in_ok-typed.typed c.in_ok-typed.ensures.ok.typed_as)
+    (plain_of c.args.source.now c.typed_source.new.names c.in_ok-typed.typed c.in_ok-typed.table c.in_ok-typed.ensures.ok)
 
 pub returns-in_err-check_obligations-clause-refused : goal.returns-in_err-check_obligations-clause-refused
 returns-in_err-check_obligations-clause-refused c =
@@ -45,7 +45,7 @@ all_owed-requires c =
     walkable c.typed_source.new.names c.in_ok-typed.table c.in_ok-typed.typed c.in_ok-lowered.lowered
     (lowered_with c.typed_source.new.names c.into_decls.result c.in_ok-typed.table c.in_ok-typed.typed c.in_ok-lowered.lowered c.into_decls.ensures c.in_ok-lowered.ensures.lowered)
     c.in_ok-typed.ensures.fits
-    (plain_of c.args.source.now c.typed_source.new.names c.in_ok-typed.typed c.in_ok-typed.ensures.ok.typed_as)
+    (plain_of c.args.source.now c.typed_source.new.names c.in_ok-typed.typed c.in_ok-typed.table c.in_ok-typed.ensures.ok)
 
 pub returns-clause-ok : goal.returns-clause-ok
 returns-clause-ok c =

@@ -1,0 +1,5 @@
+pub mod CopyDecided
+pub mod Laws
+pub mod Plain
+pub mod Runs
+pub mod Unrun
