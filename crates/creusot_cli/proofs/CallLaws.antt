@@ -57,15 +57,15 @@ listed_answers verb source p plan v short prepared (status, printed) = rw (statu
 
 -- ---- what the proofs decide
 
-pub reported_answers : (source : List ℕ) (p : Program) (o : Option Fetched) (proofs : List Proof) → AreProofs o proofs → (plan : Plan) →
+pub reported_answers : (source : List ℕ) (p : Program) (o : Option Fetched) (proofs : List Proof) → AreProofs p.names o proofs → (plan : Plan) →
     (v : Verdict) × IsVerdict proofs p v × (plan.status ≡ status_of v) × (plan.bytes.items ≡ report_of source v) → AnswersVerify source p o plan.status plan.bytes.items
 reported_answers source p o proofs are plan (v, is, status, printed) = rw (status, printed) (AnswersVerify.reported proofs are is)
 
-pub given_proofs : (bytes : List ℕ) (file : ProofFile) (proofs : List Proof) → length bytes ≤ most_proof_bytes → SpellsProofs [] bytes file → proofs ≡ file.proofs → AreProofs (Some (whole bytes)) proofs
-given_proofs bytes file proofs short spelled e = rw e (AreProofs.given bytes short spelled)
+pub given_proofs : (table : List (List ℕ)) (bytes : List ℕ) (file : ProofFile) (proofs : List Proof) → length bytes ≤ most_proof_bytes → SpellsProofs table bytes file → proofs ≡ file.proofs → AreProofs table (Some (whole bytes)) proofs
+given_proofs table bytes file proofs short spelled e = rw e (AreProofs.given bytes short spelled)
 
-pub absent_proofs : (o : Option Fetched) (proofs : List Proof) → o ≡ None → proofs ≡ [] → AreProofs o proofs
-absent_proofs o proofs e p = rw (e, p) AreProofs.absent
+pub absent_proofs : (table : List (List ℕ)) (o : Option Fetched) (proofs : List Proof) → o ≡ None → proofs ≡ [] → AreProofs table o proofs
+absent_proofs table o proofs e p = rw (e, p) AreProofs.absent
 
 -- a file of proofs that was read whole is refused for a bad line alone
 pub refused_proofs : (source : List ℕ) (p : Program) (bytes : List ℕ) (r : Refusal) → length bytes ≤ most_proof_bytes → RefusesProofs bytes r → (plan : Plan) → PlansRefusedProofs r plan →

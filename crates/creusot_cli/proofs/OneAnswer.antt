@@ -1,9 +1,9 @@
 -- Of one verb, source and proofs there is one answer.
-use Rattle.std.proofs.Common.{◌≡◌, ◌∙◌, refl, sym, ap, subst, ℕ, ◌≤◌, List, [], length, Option, Some, None}
+use Rattle.std.proofs.Common.{◌≡◌, ◌∙◌, refl, sym, ap, subst, ℕ, ◌≤◌, List, [], ◌++◌, length, Option, Some, None}
 use Rattle.text_core.specs.declared.refusal.Limit.{Limit}
 use Rattle.text_core.specs.declared.refusal.SourceError.{SourceError}
+use Rattle.text_core.specs.Names.{words, HaveOnePlace}
 use Rattle.name_tables.specs.NameTables.{with_names}
-use Rattle.name_tables.proofs.Tables.{one_place_at_first}
 use Rattle.proof_text.specs.declared.proof.Proof.{Proof}
 use Rattle.proof_text.specs.declared.proof.ProofFile.{ProofFile}
 use Rattle.proof_text.specs.ProofFileForm.{IsFirstBadLine}
@@ -14,6 +14,7 @@ use Rattle.call_words.specs.declared.request.Verb.TheVariants.{Verify, List as L
 use Rattle.verify_core.specs.declared.program.Program.{Program}
 use Rattle.verify_core.specs.Prepared.{IsPrepared, IsRefused, IsPastLimit, most_bytes}
 use Rattle.verify_core.specs.Verdict.{IsVerdict}
+use Rattle.verify_core.proofs.NameCounts.{one_place_of_names}
 use Rattle.verify_core.proofs.OneAnswer.{one_refusal, refused_not_past, one_limit, prepared_not_past, prepared_not_refused, one_program}
 use Rattle.verify_core.proofs.OneVerdict.{verdict_once}
 use Rattle.creusot_cli.specs.Answer.{Fetched, whole, longer, source_limit, proofs_limit, IsProgramOf, RefusesFetched, AreProofs, AnswersVerify, AnswersList, DoesVerb, AnswersOn, AnswersAreOne, status_of}
@@ -34,38 +35,38 @@ not_both f n xs h g = cc
 
 -- ---- one file of proofs
 
-long_not_read : (o : Option Fetched) (n : ℕ) (given : List Proof) → o ≡ Some (longer n) → AreProofs o given → ⊥
-long_not_read _ n _ e AreProofs.absent = cc
-long_not_read _ n _ e (AreProofs.given bytes short spelled) = cc
+long_not_read : (table : List (List ℕ)) (o : Option Fetched) (n : ℕ) (given : List Proof) → o ≡ Some (longer n) → AreProofs table o given → ⊥
+long_not_read table _ n _ e AreProofs.absent = cc
+long_not_read table _ n _ e (AreProofs.given bytes short spelled) = cc
 
-bad_not_read : (o : Option Fetched) (bytes : List ℕ) (line : ℕ) (given : List Proof) → o ≡ Some (whole bytes) → IsFirstBadLine bytes line → AreProofs o given → ⊥
-bad_not_read _ bytes line _ e bad AreProofs.absent = cc
-bad_not_read _ bytes line _ e bad (AreProofs.given {file} other short spelled) =
+bad_not_read : (table : List (List ℕ)) (o : Option Fetched) (bytes : List ℕ) (line : ℕ) (given : List Proof) → o ≡ Some (whole bytes) → IsFirstBadLine bytes line → AreProofs table o given → ⊥
+bad_not_read table _ bytes line _ e bad AreProofs.absent = cc
+bad_not_read table _ bytes line _ e bad (AreProofs.given {file} other short spelled) =
     let same : bytes ≡ other = cc in
-    one_reading.not_both (with_names [] spelled.0) other file.proofs line spelled.2 (subst (λ (x : List ℕ). IsFirstBadLine x line) same bad)
+    one_reading.not_both (with_names table spelled.0) other file.proofs line spelled.2 (subst (λ (x : List ℕ). IsFirstBadLine x line) same bad)
 
-same_proofs : (o : Option Fetched) (one other : List Proof) → AreProofs o one → AreProofs o other → one ≡ other
-same_proofs None _ _ AreProofs.absent AreProofs.absent = refl
-same_proofs (Some (longer n)) _ _ are _ = elim are [ ]
-same_proofs (Some (whole bytes)) _ _ (AreProofs.given {file} _ short spelled) (AreProofs.given {file = file₂} _ short₂ spelled₂) =
-    ap (λ (x : ProofFile). x.proofs) (spelled_once [] bytes file file₂ one_place_at_first spelled spelled₂)
+same_proofs : (table : List (List ℕ)) (o : Option Fetched) (one other : List Proof) → HaveOnePlace (words ++ table) → AreProofs table o one → AreProofs table o other → one ≡ other
+same_proofs table None _ _ place AreProofs.absent AreProofs.absent = refl
+same_proofs table (Some (longer n)) _ _ place are _ = elim are [ ]
+same_proofs table (Some (whole bytes)) _ _ place (AreProofs.given {file} _ short spelled) (AreProofs.given {file = file₂} _ short₂ spelled₂) =
+    ap (λ (x : ProofFile). x.proofs) (spelled_once table bytes file file₂ place spelled spelled₂)
 
-module _ (source : List ℕ) (p : Program) (proofs : Option Fetched) where
+module _ (source : List ℕ) (p : Program) (proofs : Option Fetched) (place : HaveOnePlace (words ++ p.names)) where
   one_of_proofs : {s t : ℕ} {xs ys : List ℕ} → AnswersVerify source p proofs s xs → AnswersVerify source p proofs t ys → Same s xs t ys
   one_of_proofs (AnswersVerify.proofs_long {n = m} e far) (AnswersVerify.proofs_long {n} g beyond) =
       let same : m ≡ n = cc in
       (refl, ap (λ (k : ℕ). limit_line (proofs_limit k)) same)
   one_of_proofs (AnswersVerify.proofs_long e far) (AnswersVerify.proofs_refused bytes g short bad) = absurd cc
-  one_of_proofs (AnswersVerify.proofs_long {n} e far) (AnswersVerify.reported given are is) = absurd (long_not_read proofs n given e are)
+  one_of_proofs (AnswersVerify.proofs_long {n} e far) (AnswersVerify.reported given are is) = absurd (long_not_read p.names proofs n given e are)
   one_of_proofs (AnswersVerify.proofs_refused bytes e short bad) (AnswersVerify.proofs_long g far) = absurd cc
   one_of_proofs (AnswersVerify.proofs_refused {line = m} bytes e short bad) (AnswersVerify.proofs_refused {line = n} other g short₂ bad₂) =
       let same : bytes ≡ other = cc in
       (refl, ap proof_error_line (one_reading.one_line other m n (subst (λ (x : List ℕ). IsFirstBadLine x m) same bad) bad₂))
-  one_of_proofs (AnswersVerify.proofs_refused {line} bytes e short bad) (AnswersVerify.reported given are is) = absurd (bad_not_read proofs bytes line given e bad are)
-  one_of_proofs (AnswersVerify.reported given are is) (AnswersVerify.proofs_long {n} g far) = absurd (long_not_read proofs n given g are)
-  one_of_proofs (AnswersVerify.reported given are is) (AnswersVerify.proofs_refused {line} bytes g short bad) = absurd (bad_not_read proofs bytes line given g bad are)
+  one_of_proofs (AnswersVerify.proofs_refused {line} bytes e short bad) (AnswersVerify.reported given are is) = absurd (bad_not_read p.names proofs bytes line given e bad are)
+  one_of_proofs (AnswersVerify.reported given are is) (AnswersVerify.proofs_long {n} g far) = absurd (long_not_read p.names proofs n given g are)
+  one_of_proofs (AnswersVerify.reported given are is) (AnswersVerify.proofs_refused {line} bytes g short bad) = absurd (bad_not_read p.names proofs bytes line given g bad are)
   one_of_proofs (AnswersVerify.reported {v = one} given are is) (AnswersVerify.reported {v = other} given₂ are₂ is₂) =
-      let e = same_proofs proofs given given₂ are are₂ in
+      let e = same_proofs p.names proofs given given₂ place are are₂ in
       let same : one ≡ other = verdict_once given₂ p one other (subst (λ (x : List Proof). IsVerdict x p one) e is) is₂ in
       (ap status_of same, ap (report_of source) same)
 
@@ -73,9 +74,9 @@ one_of_list : (bytes : List ℕ) (p : Program) {s t : ℕ} {xs ys : List ℕ} �
 one_of_list bytes p AnswersList.listed AnswersList.listed = (refl, refl)
 
 -- by verb
-one_of_verb : (v : Verb) (bytes : List ℕ) (p : Program) (proofs : Option Fetched) {s t : ℕ} {xs ys : List ℕ} → DoesVerb v bytes p proofs s xs → DoesVerb v bytes p proofs t ys → Same s xs t ys
-one_of_verb Verify bytes p proofs h g = one_of_proofs bytes p proofs h g
-one_of_verb Listing bytes p proofs h g = one_of_list bytes p h g
+one_of_verb : (v : Verb) (bytes : List ℕ) (p : Program) (proofs : Option Fetched) {s t : ℕ} {xs ys : List ℕ} → HaveOnePlace (words ++ p.names) → DoesVerb v bytes p proofs s xs → DoesVerb v bytes p proofs t ys → Same s xs t ys
+one_of_verb Verify bytes p proofs place h g = one_of_proofs bytes p proofs place h g
+one_of_verb Listing bytes p proofs place h g = one_of_list bytes p h g
 
 -- ---- one source
 
@@ -143,18 +144,18 @@ module _ (verb : Verb) (source : Fetched) (proofs : Option Fetched) where
 
   -- ---- one answer
 
-  of_one_found : (f : Found) {s t : ℕ} {xs ys : List ℕ} → Answering f s xs → Answering f t ys → Same s xs t ys
-  of_one_found (too_long n) h g = (h.0 ∙ sym g.0, h.1 ∙ sym g.1)
-  of_one_found (refused bytes error) h g = (h.0 ∙ sym g.0, h.1 ∙ sym g.1)
-  of_one_found (past bytes limit) h g = (h.0 ∙ sym g.0, h.1 ∙ sym g.1)
-  of_one_found (accepted bytes p) h g = one_of_verb verb bytes p proofs h g
+  of_one_found : (f : Found) {s t : ℕ} {xs ys : List ℕ} → Finds f → Answering f s xs → Answering f t ys → Same s xs t ys
+  of_one_found (too_long n) is h g = (h.0 ∙ sym g.0, h.1 ∙ sym g.1)
+  of_one_found (refused bytes error) is h g = (h.0 ∙ sym g.0, h.1 ∙ sym g.1)
+  of_one_found (past bytes limit) is h g = (h.0 ∙ sym g.0, h.1 ∙ sym g.1)
+  of_one_found (accepted bytes p) is h g = one_of_verb verb bytes p proofs (one_place_of_names bytes p is.prepared) h g
 
   one_answer : {s t : ℕ} {xs ys : List ℕ} → AnswersOn verb source proofs s xs → AnswersOn verb source proofs t ys → Same s xs t ys
   one_answer {s} {t} {xs} {ys} h g =
       let f = parted h in
       let k = parted g in
       let e : f.0 ≡ k.0 = same_found f.0 k.0 f.1 k.1 in
-      of_one_found k.0 (subst (λ (x : Found). Answering x s xs) e f.2) k.2
+      of_one_found k.0 k.1 (subst (λ (x : Found). Answering x s xs) e f.2) k.2
 
 pub answers_are_one : AnswersAreOne
 answers_are_one verb source proofs s t xs ys h g = one_answer verb source proofs h g

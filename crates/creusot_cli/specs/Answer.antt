@@ -50,10 +50,10 @@ pub data RefusesFetched (source : Fetched) : ℕ → List ℕ → Type 0 where
 
 -- ---- `verify` of an accepted source
 
--- no proofs where no file is named
-pub data AreProofs : Option Fetched → List Proof → Type 0 where
-  absent : AreProofs None []
-  given : {file : ProofFile} (bytes : List ℕ) → length bytes ≤ most_proof_bytes → SpellsProofs [] bytes file → AreProofs (Some (whole bytes)) file.proofs
+-- no proofs where no file is named; in a file each text has the name that the table of the source gave it, or else the next one
+pub data AreProofs (table : List (List ℕ)) : Option Fetched → List Proof → Type 0 where
+  absent : AreProofs table None []
+  given : {file : ProofFile} (bytes : List ℕ) → length bytes ≤ most_proof_bytes → SpellsProofs table bytes file → AreProofs table (Some (whole bytes)) file.proofs
 
 abbrev pub status_of : Verdict → ℕ
 status_of v = if length v.left == 0 then 0 else 1
@@ -61,7 +61,7 @@ status_of v = if length v.left == 0 then 0 else 1
 pub data AnswersVerify (source : List ℕ) (p : Program) (proofs : Option Fetched) : ℕ → List ℕ → Type 0 where
   proofs_long : {n : ℕ} → proofs ≡ Some (longer n) → most_proof_bytes < n → AnswersVerify source p proofs 7 (limit_line (proofs_limit n))
   proofs_refused : {line : ℕ} (bytes : List ℕ) → proofs ≡ Some (whole bytes) → length bytes ≤ most_proof_bytes → IsFirstBadLine bytes line → AnswersVerify source p proofs 4 (proof_error_line line)
-  reported : {v : Verdict} (given : List Proof) → AreProofs proofs given → IsVerdict given p v → AnswersVerify source p proofs (status_of v) (report_of source v)
+  reported : {v : Verdict} (given : List Proof) → AreProofs p.names proofs given → IsVerdict given p v → AnswersVerify source p proofs (status_of v) (report_of source v)
 
 -- ---- `list` of an accepted source
 

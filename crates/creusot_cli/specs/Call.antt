@@ -95,7 +95,7 @@ pub record Reports (shelf : Option Files) (a : Asked) (status : ℕ) (before aft
   pub read : Option Fetched
   pub are_read : AreFetched shelf a.proofs read
   pub proofs : List Proof
-  pub are_proofs : AreProofs read proofs
+  pub are_proofs : AreProofs program.names read proofs
   pub verdict : Verdict
   pub is_verdict : IsVerdict proofs program verdict
   pub printed : Appends before after (report_of source verdict)

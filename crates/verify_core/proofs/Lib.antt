@@ -8,11 +8,12 @@ mod ReachLaws
 mod RoundLaws
 mod RunLaws
 mod StepsOnce
-mod VerdictLaws
 pub mod Basics
+pub mod NameCounts
 pub mod OneAnswer
 pub mod OneCount
 pub mod OneVerdict
 pub mod OneWalk
 pub mod SettledLaws
+pub mod VerdictLaws
 pub mod Verified

@@ -11,11 +11,12 @@ use Rattle.prophecy_sim.specs.declared.node.Node.{Node}
 use Rattle.prophecy_sim.specs.declared.node.Node.TheVariants.{Function}
 use Rattle.prophecy_sim.specs.Programs.{Reaches, itself}
 use Rattle.report_out.specs.declared.verdict.FnLine.{FnLine}
+use Rattle.report_out.specs.declared.verdict.Verdict.{Verdict}
 use Rattle.verify_core.specs.declared.program.Program.{Program}
 use Rattle.verify_core.specs.Flags.{AreJustified, AreSettled}
 use Rattle.verify_core.specs.Judging.{FlagsTell, AreLinesOf}
 use Rattle.verify_core.specs.Owed.{HaveOwners}
-use Rattle.verify_core.specs.Verdict.{HasDerivation, IsProved, Tells, IsVerified, AreLines}
+use Rattle.verify_core.specs.Verdict.{HasDerivation, IsProved, Tells, IsVerified, AreLines, IsVerdict}
 use Rattle.verify_core.proofs.OwedLaws.{owes_nothing}
 use Rattle.verify_core.proofs.ReachLaws.{reached_set}
 use Rattle.verify_core.proofs.Basics.{some_same}
@@ -73,4 +74,14 @@ justified_at_start bodies proved = record {
   as_many = refl;
   set = λ f e. e;
   unset = λ f e. record { open_one = f; reaches = itself; is_open = e };
+}
+
+-- ---- tables of names
+
+-- a verdict is on what a program owes, whatever names stand in its table
+pub with_any_names : (ps : List Proof) (p : Program) (table : List (List ℕ)) (v : Verdict) → IsVerdict ps (record p { names = table }) v → IsVerdict ps p v
+with_any_names ps p table v is = record {
+  judged = is.judged;
+  counted = is.counted;
+  lines = record { names = is.lines.names; told = is.lines.told };
 }

@@ -1,5 +1,5 @@
 -- The verdict on a source with the proofs of a file, and what it is worth.
-use Rattle.std.specs.Prelude.{◌≡◌, ℕ, ◌<◌, true, List, [], length, Some, slice_get}
+use Rattle.std.specs.Prelude.{◌≡◌, ℕ, ◌<◌, true, List, length, Some, slice_get}
 use Rattle.text_core.specs.declared.refusal.LimitKind.TheVariants.{ProofBytes}
 use Rattle.text_core.specs.declared.refusal.Limit.{Limit}
 use Rattle.logic_term.specs.declared.obligation.Contract.{Contract}
@@ -23,12 +23,13 @@ most_proof_bytes = 67108864
 abbrev pub AreGood : Program → Verdict → Type 0
 AreGood p v = (f : ℕ) (line : FnLine) (c : Contract) → slice_get v.functions f ≡ Some line → line.verified ≡ true → slice_get p.contracts.of f ≡ Some c → Good (declared_of p) p.bodies f c
 
--- the source is accepted, the bytes are a file of proofs, and this is the verdict
+-- the source is accepted, the bytes are a file of proofs, in which each text has the name that the source's table gave it, or else the next
+-- one, and this is the verdict
 pub record IsVerdictOn (source proofs : List ℕ) (v : Verdict) : Type 0 where
   pub program : Program
   pub prepared : IsPrepared source program
   pub file : ProofFile
-  pub spelled : SpellsProofs [] proofs file
+  pub spelled : SpellsProofs program.names proofs file
   pub is_verdict : IsVerdict file.proofs program v
   pub good : AreGood program v
 

@@ -169,6 +169,8 @@ fn all_owed(alloc: Global, lowered: &Lowered) -> Result<Items<Owed>, NoMemory>
 /// `Proof`.
 pub fn prepare(alloc: Global, source: &[u8]) -> Result<Program, Refusal>
     ensures ok { IfOk result (IsPrepared source.now) }
+    // So there is room for the names of proofs.
+    ensures few_names { IfOk result (λ p. length p.names ≤ 2 ^ 20) }
     ensures refused { IfErr result (RefusesSource source.now) }
 {
     if source.len() > SOURCE_BYTES {

@@ -113,20 +113,22 @@ fn plan_of_proofs(alloc: Global, refusal: Refusal) -> Result<Plan, NoMemory>
     }
 }
 
-/// What is answered to the bytes of a file of proofs.
+/// What is answered to the bytes of a file of proofs, which may use the names of the source.
 fn answer_on_file(
     alloc: Global,
     source: &[u8],
-    program: &Program,
+    program: Program,
     bytes: &[u8],
 ) -> Result<Plan, NoMemory>
     requires short { length source.now ≤ 2 ^ 20 }
-    requires owners { HaveOwners program.now.bodies program.now.obligations }
+    requires owners { HaveOwners program.bodies program.obligations }
+    requires few_names { length program.names ≤ 2 ^ 20 }
     requires within { length bytes.now ≤ 2 ^ 26 }
-    ensures { IfOk result (λ p. AnswersVerify source.now program.now (Some (whole bytes.now)) p.status p.bytes.items) }
+    ensures { IfOk result (λ p. AnswersVerify source.now program (Some (whole bytes.now)) p.status p.bytes.items) }
 {
-    match proofs_of(alloc, bytes) {
-        Ok(file) => reported(alloc, source, program, file.proofs.as_slice()),
+    let mut program = program;
+    match proofs_of(alloc, &mut program.names, bytes) {
+        Ok(file) => reported(alloc, source, &program, file.proofs.as_slice()),
         Err(refusal) => plan_of_proofs(alloc, refusal),
     }
 }
@@ -135,13 +137,14 @@ fn answer_on_file(
 fn answer_on_read(
     alloc: Global,
     source: &[u8],
-    program: &Program,
+    program: Program,
     read: &ReadFile,
 ) -> Result<Plan, NoMemory>
     requires short { length source.now ≤ 2 ^ 20 }
-    requires owners { HaveOwners program.now.bodies program.now.obligations }
+    requires owners { HaveOwners program.bodies program.obligations }
+    requires few_names { length program.names ≤ 2 ^ 20 }
     requires within { IsWithin most_proof_bytes (fetched read.now) }
-    ensures { IfOk result (λ p. AnswersVerify source.now program.now (Some (fetched read.now)) p.status p.bytes.items) }
+    ensures { IfOk result (λ p. AnswersVerify source.now program (Some (fetched read.now)) p.status p.bytes.items) }
 {
     match read {
         ReadFile::Whole(bytes) => answer_on_file(alloc, source, program, bytes.as_slice()),
@@ -160,16 +163,17 @@ fn answer_on_read(
 pub(crate) fn answer_on_proofs(
     alloc: Global,
     source: &[u8],
-    program: &Program,
+    program: Program,
     proofs: &Option<ReadFile>,
 ) -> Result<Plan, NoMemory>
     requires short { length source.now ≤ 2 ^ 20 }
-    requires owners { HaveOwners program.now.bodies program.now.obligations }
+    requires owners { HaveOwners program.bodies program.obligations }
+    requires few_names { length program.names ≤ 2 ^ 20 }
     requires within { IsProofsWithin proofs.now }
-    ensures { IfOk result (λ p. AnswersVerify source.now program.now (option_map fetched proofs.now) p.status p.bytes.items) }
+    ensures { IfOk result (λ p. AnswersVerify source.now program (option_map fetched proofs.now) p.status p.bytes.items) }
 {
     match proofs {
-        None => reported(alloc, source, program, Items::new(alloc).as_slice()),
+        None => reported(alloc, source, &program, Items::new(alloc).as_slice()),
         Some(read) => answer_on_read(alloc, source, program, read),
     }
 }

@@ -39,11 +39,11 @@ fn verified<S: Shelf>(
     alloc: Global,
     request: Request<'_>,
     source: &[u8],
-    program: &Program,
+    program: Program,
     shelf: &mut S,
 ) -> Result<Plan, Stop>
     requires verb { request.verb ≡ Verify }
-    requires has { HasProgram (S.holds shelf.old) (asked request) source.now program.now }
+    requires has { HasProgram (S.holds shelf.old) (asked request) source.now program }
     ensures ok { IfOk result (λ p. Answers (S.holds shelf.old) (asked request.entry) p.status p.bytes.items) }
     ensures holds { S.holds shelf.new ≡ S.holds shelf.old }
     ensures failed { result ≡ Err Stop.ShelfFailed → CannotRead (S.holds shelf.old) (S.read_faults shelf.old) (S.read_faults shelf.new) (Some (asked request.entry)) }
@@ -71,7 +71,7 @@ fn plan_of_source<S: Shelf>(
 {
     match answer_on_source(alloc, request.verb, source)? {
         Opened::Answered(plan) => Ok(plan),
-        Opened::Accepted(program) => verified(alloc, request, source, &program, shelf),
+        Opened::Accepted(program) => verified(alloc, request, source, program, shelf),
     }
 }
 

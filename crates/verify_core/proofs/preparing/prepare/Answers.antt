@@ -1,6 +1,7 @@
 use Rattle.std.proofs.Common.{arith}
 use Rattle.std.proofs.lemmas.Result.{err_from_is_err_and}
 use Rattle.verify_core.specs.Prepared.{IsPastLimit}
+use Rattle.verify_core.proofs.NameCounts.{names_of_bytes}
 use Rattle.verify_core.proofs.PassLaws.{lowered_as, lowered_with, lowering_refused, obligations_refused, paths_refused, plain_of, tables_are, walkable, laid_out}
 use Rattle.verify_core.proofs.preparing.prepare.Goals as goal
 
@@ -61,3 +62,7 @@ returns-clause-ok c =
       owed = c.in_ok-obligations.ensures;
       few = c.in_ok-check_obligations.ensures.ok c.in_ok-obligations.obligations c.in_ok-obligations.ensures;
     }
+
+pub returns-clause-few_names : goal.returns-clause-few_names
+returns-clause-few_names c =
+    omega (arith, c.if-source-gt-SOURCE_BYTES.false, names_of_bytes c.args.source.now c.typed_source.new.names c.in_ok-typed.ensures.ok.typed_as.has.gives)

@@ -11,7 +11,7 @@ use Rattle.creusot_cli.proofs.verify.answer.answer_on_proofs.Goals as goal
 
 pub returns-in-None : goal.returns-in-None
 returns-in-None c =
-    if_ok (λ (p : Plan). (v : Verdict) × IsVerdict c.as_slice-in-None.result.now c.args.program.now v × (p.status ≡ status_of v) × (p.bytes.items ≡ report_of c.args.source.now v))
-    (λ (p : Plan). AnswersVerify c.args.source.now c.args.program.now (option_map fetched c.args.proofs.now) p.status p.bytes.items) c.reported.result
-    (reported_answers c.args.source.now c.args.program.now (option_map fetched c.args.proofs.now) c.as_slice-in-None.result.now
-    (absent_proofs (option_map fetched c.args.proofs.now) c.as_slice-in-None.result.now (ap (option_map fetched) c.in-None.is) (c.as_slice-in-None.ensures ∙ c.new.ensures))) c.reported.ensures
+    if_ok (λ (p : Plan). (v : Verdict) × IsVerdict c.as_slice-in-None.result.now c.args.program v × (p.status ≡ status_of v) × (p.bytes.items ≡ report_of c.args.source.now v))
+    (λ (p : Plan). AnswersVerify c.args.source.now c.args.program (option_map fetched c.args.proofs.now) p.status p.bytes.items) c.reported.result
+    (reported_answers c.args.source.now c.args.program (option_map fetched c.args.proofs.now) c.as_slice-in-None.result.now
+    (absent_proofs c.args.program.names (option_map fetched c.args.proofs.now) c.as_slice-in-None.result.now (ap (option_map fetched) c.in-None.is) (c.as_slice-in-None.ensures ∙ c.new.ensures))) c.reported.ensures

@@ -11,6 +11,6 @@ use Rattle.creusot_cli.proofs.verify.answer.answer_on_read.Goals as goal
 pub returns-in-TooLong : goal.returns-in-TooLong
 returns-in-TooLong c =
     if_ok (λ (p : Plan). (p.status ≡ 7) × (p.bytes.items ≡ limit_line (proofs_limit c.in-TooLong.length)))
-    (λ (p : Plan). AnswersVerify c.args.source.now c.args.program.now (Some (fetched c.args.read.now)) p.status p.bytes.items) c.plan_of_limit.result
-    (long_proofs c.args.source.now c.args.program.now (Some (fetched c.args.read.now)) c.in-TooLong.length (ap (λ (r : ReadFile). Some (fetched r)) c.in-TooLong.is)
+    (λ (p : Plan). AnswersVerify c.args.source.now c.args.program (Some (fetched c.args.read.now)) p.status p.bytes.items) c.plan_of_limit.result
+    (long_proofs c.args.source.now c.args.program (Some (fetched c.args.read.now)) c.in-TooLong.length (ap (λ (r : ReadFile). Some (fetched r)) c.in-TooLong.is)
     (subst (λ (r : ReadFile). IsWithin most_proof_bytes (fetched r)) c.in-TooLong.is c.requires.within)) c.plan_of_limit.ensures
