@@ -1,15 +1,14 @@
 //! What is shown of a source.
-ghost use Rattle.std.specs.Prelude.{◌≡◌, []};
+ghost use Rattle.std.specs.Prelude.{◌≤◌, ◌^◌, length};
 
 use crate::error_page::refusal_text;
 use crate::goal_page::{Accepted, Proofs, goals_text};
 use crate::naming::Words;
 use crate::place::Source;
 use crate::skeleton_page::skeleton_text;
-use proof_text::{ProofFile, ProofTextError};
 use std::alloc::Global;
-use text_core::{Names, NoMemory};
-use verify_core::{PROOF_BYTES, Refusal, SOURCE_BYTES, prepare};
+use text_core::NoMemory;
+use verify_core::{Program, Refusal, SOURCE_BYTES, prepare, proofs_of};
 
 /// What is asked for.
 #[derive(Clone, Copy)]
@@ -30,39 +29,52 @@ pub struct Page {
     pub finds: bool,
 }
 
-/// What the bytes of a proof file hold, with the table of its names.
-fn read(alloc: Global, bytes: &[u8], names: &mut Names) -> Result<ProofFile, Refusal>
-    requires { names.old ≡ [] }
+/// The open obligations of a source that is accepted, with the proofs of a file, which may use the names of the source.
+fn goals_page(
+    alloc: Global,
+    source: Source<'_>,
+    program: Program,
+    words: &Words,
+    proofs: Source<'_>,
+) -> Result<String, Refusal>
+    requires { length program.names ≤ 2 ^ 20 }
 {
-    if bytes.len() > PROOF_BYTES {
-        return verify_core::proofs_of(alloc, bytes);
-    }
-    match proof_text::read_proofs(alloc, bytes, names) {
-        Ok(file) => Ok(file),
-        Err(ProofTextError::BadLine(line)) => Err(Refusal::Proof(line)),
-        Err(ProofTextError::NoMemory) => Err(Refusal::NoMemory),
-    }
+    let mut program = program;
+    let file = proofs_of(alloc, &mut program.names, proofs.bytes)?;
+    let accepted = Accepted {
+        source,
+        program: &program,
+        words,
+    };
+    let proofs = Proofs {
+        name: proofs.name,
+        proofs: file.proofs.as_slice(),
+    };
+    Ok(goals_text(alloc, accepted, proofs, &program.names)?)
 }
 
 /// The page of a source that is accepted.
 fn accepted_page(
     alloc: Global,
     verb: Verb,
-    accepted: Accepted<'_>,
+    source: Source<'_>,
+    program: Program,
+    words: &Words,
     proofs: Source<'_>,
-) -> Result<String, Refusal> {
+) -> Result<String, Refusal>
+    requires { length program.names ≤ 2 ^ 20 }
+{
     match verb {
         Verb::Errors => Ok(String::new(alloc)),
-        Verb::Skeleton => Ok(skeleton_text(alloc, accepted)?),
-        Verb::Goals => {
-            let mut names = Names::new(alloc);
-            let file = read(alloc, proofs.bytes, &mut names)?;
-            let proofs = Proofs {
-                name: proofs.name,
-                proofs: file.proofs.as_slice(),
+        Verb::Skeleton => {
+            let accepted = Accepted {
+                source,
+                program: &program,
+                words,
             };
-            Ok(goals_text(alloc, accepted, proofs, &names)?)
+            Ok(skeleton_text(alloc, accepted)?)
         }
+        Verb::Goals => goals_page(alloc, source, program, words, proofs),
     }
 }
 
@@ -77,12 +89,7 @@ fn page_of(
         return Err(Refusal::NoMemory);
     }
     let words = Words::of(alloc, source.bytes)?;
-    let accepted = Accepted {
-        source,
-        program: &program,
-        words: &words,
-    };
-    accepted_page(alloc, verb, accepted, proofs)
+    accepted_page(alloc, verb, source, program, &words, proofs)
 }
 
 /// What is shown: the page, or why the source or the proof file is refused. Errors and goals are empty where nothing is

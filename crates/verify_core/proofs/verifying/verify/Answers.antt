@@ -1,6 +1,7 @@
 use Rattle.std.proofs.lemmas.Result.{err_from_is_err_and}
 use Rattle.verify_core.specs.Verdict.{IsVerdict}
 use Rattle.verify_core.proofs.PassLaws.{source_refused, proofs_refused}
+use Rattle.verify_core.proofs.VerdictLaws.{with_any_names}
 use Rattle.verify_core.proofs.Verified.{owners_of_prepared, verified_is_good}
 use Rattle.verify_core.proofs.verifying.verify.Goals as goal
 
@@ -22,7 +23,8 @@ returns-clause-ok c =
     let program = c.in_ok-program.program in
     let file = c.in_ok-file.file in
     let verdict = c.in_ok-verdict.verdict in
-    let is : IsVerdict file.proofs program verdict = rw c.as_slice.ensures at c.in_ok-verdict.ensures in
+    let after : IsVerdict file.proofs (record program { names = c.proofs_of.new.names }) verdict = rw c.as_slice.ensures at c.in_ok-verdict.ensures in
+    let is : IsVerdict file.proofs program verdict = with_any_names file.proofs program c.proofs_of.new.names verdict after in
     record {
       program = program;
       prepared = c.in_ok-program.ensures.ok;
