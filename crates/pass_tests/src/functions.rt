@@ -67,9 +67,9 @@ const NOT_BUILT: [Row; 56] = [
     ),
     (
         b"#[requires(forall<x: Int, y: S<Int>> true)] fn f() {}",
-        Code::E20,
+        Code::E05,
         29,
-        35,
+        30,
     ),
     (b"fn f() { let x: Int = 5; }", Code::E05, 16, 19),
     (b"#[requires(true)] struct S;", Code::E20, 0, 1),
