@@ -3,9 +3,10 @@ ghost use Rattle.std.specs.Prelude.{◌≡◌, ◌<◌, ◌+◌, ◌^◌, length
 
 use crate::attempt::{introduced, steps_done};
 use crate::naming::Words;
-use crate::opening::{Intro, push_opened};
+use crate::opening::{Intro, declared_by, push_opened};
 use crate::place::{Source, marked_line, place_text};
 use crate::sequent_page::push_sequent;
+use crate::spelling::Spelled;
 use logic_term::Obligation;
 use proof_kernel::Kernel;
 use proof_text::{NumberedStep, Proof};
@@ -95,7 +96,7 @@ fn push_unproved(
         alloc,
         out,
         obligation,
-        &accepted.program.tables,
+        accepted.program,
         &intro,
         "    ",
     )
@@ -113,6 +114,7 @@ fn line_of_stop(steps: &[NumberedStep], done: usize, end: u32) -> u32 {
 fn push_stop(
     alloc: Global,
     out: &mut String,
+    program: &Program,
     names: &Names,
     kernel: &Kernel<'_>,
     steps: &[NumberedStep],
@@ -122,7 +124,15 @@ fn push_stop(
     let variables = introduced(alloc, steps)?;
     let number = steps.len() as u32 + 1;
     match kernel.first() {
-        Some(q) => push_sequent(alloc, out, names, q, &variables, number, "    "),
+        Some(q) => {
+            let spelled = Spelled {
+                alloc,
+                variables: names,
+                declared: declared_by(program),
+                sequent: q,
+            };
+            push_sequent(out, &spelled, &variables, number, "    ")
+        }
         None => Ok(out.push_str("    nothing is left to prove\n")?),
     }
 }
@@ -150,7 +160,7 @@ fn push_attempt(
     let line = line_of_stop(steps, done, proof.end);
     writeln!(out, "    {file}:{line}: the proof stops here, at")?;
     let (before, _) = steps.split_at(steps.len().min(done));
-    push_stop(alloc, out, names, &kernel, before)
+    push_stop(alloc, out, accepted.program, names, &kernel, before)
 }
 
 /// All obligations that are open, in order.
