@@ -1,34 +1,10 @@
 //! Terms as contracts spell them, with the names of variables.
-use logic_term::{Quantifier, Sort, Term, TermBinary, TermForm, TermUnary, TyNode};
-use source_kinds::{ArithOp, IntKind};
-use std::alloc::AllocError;
-use text_core::{Name, Names};
-
-fn kind_text(kind: IntKind) -> &'static str {
-    match kind {
-        IntKind::I8 => "i8",
-        IntKind::I16 => "i16",
-        IntKind::I32 => "i32",
-        IntKind::I64 => "i64",
-        IntKind::Isize => "isize",
-        IntKind::U8 => "u8",
-        IntKind::U16 => "u16",
-        IntKind::U32 => "u32",
-        IntKind::U64 => "u64",
-        IntKind::Usize => "usize",
-    }
-}
-
-/// The sort; one of parts is `_`.
-pub(crate) fn sort_text(sort: &Sort) -> &'static str {
-    match &sort.node {
-        TyNode::Int(kind) => kind_text(*kind),
-        TyNode::Bool => "bool",
-        TyNode::MathInt => "Int",
-        TyNode::Tuple(parts) if parts.is_empty() => "()",
-        _ => "_",
-    }
-}
+use crate::spelling::{Bound, Spelled};
+use logic_term::{
+    Ctor, Quantifier, Sort, Term, TermBinary, TermForm, TermUnary, VariantDecl, VariantKind,
+};
+use source_kinds::ArithOp;
+use text_core::{Name, NoMemory};
 
 fn binary_text(op: TermBinary) -> &'static str {
     match op {
@@ -46,118 +22,209 @@ fn binary_text(op: TermBinary) -> &'static str {
     }
 }
 
-/// The text of the name; a name without one is `_`.
-fn push_name(out: &mut String, names: &Names, name: Name) -> Result<(), AllocError> {
-    out.push_str(names.text(name).unwrap_or("_"))
+/// What stands around the values of fields.
+fn brackets(kind: VariantKind) -> (&'static str, &'static str) {
+    match kind {
+        VariantKind::Named => (" { ", " }"),
+        VariantKind::Numbered => ("(", ")"),
+        VariantKind::Unit => ("", ""),
+    }
 }
 
-/// The parts of a value in parentheses, each with a comma behind it.
+/// The terms, with a comma between them.
 #[cycle(formula)]
 #[tactic(auto, using(logic_term::specs::TermFalls::each_smaller))]
-fn push_parts(out: &mut String, names: &Names, parts: &[Term]) -> Result<(), AllocError> {
-    out.push('(')?;
+fn push_listed<'a>(
+    out: &mut String,
+    spelled: &Spelled<'a>,
+    bound: &[Bound<'a>],
+    variant: Option<&VariantDecl>,
+    parts: &'a [Term],
+) -> Result<(), NoMemory> {
     for i in 0..parts.len() {
-        push_formula(out, names, &parts[i])?;
+        if i > 0 {
+            out.push_str(", ")?;
+        }
+        if let Some(variant) = variant {
+            spelled.push_label(out, variant, i)?;
+        }
+        push_formula(out, spelled, bound, &parts[i])?;
+    }
+    Ok(())
+}
+
+/// `(A, B)`, and `(A,)` of one part.
+#[cycle(formula)]
+fn push_tuple<'a>(
+    out: &mut String,
+    spelled: &Spelled<'a>,
+    bound: &[Bound<'a>],
+    parts: &'a [Term],
+) -> Result<(), NoMemory> {
+    out.push('(')?;
+    push_listed(out, spelled, bound, None, parts)?;
+    if parts.len() == 1 {
         out.push(',')?;
     }
-    out.push(')')
+    Ok(out.push(')')?)
+}
+
+/// A value of parts: a tuple, `Path`, `Path(A, B)` or `Path { f: A, g: B }`.
+#[cycle(formula)]
+fn push_made<'a>(
+    out: &mut String,
+    spelled: &Spelled<'a>,
+    bound: &[Bound<'a>],
+    ctor: Ctor,
+    parts: &'a [Term],
+) -> Result<(), NoMemory> {
+    let made = match ctor {
+        Ctor::Variant(id, number) => spelled.variant(id, number),
+        Ctor::Tuple | Ctor::Closure(_) => None,
+    };
+    let Some((decl, variant)) = made else {
+        return push_tuple(out, spelled, bound, parts);
+    };
+    let (before, behind) = brackets(variant.kind);
+    spelled.push_path(out, decl, variant)?;
+    out.push_str(before)?;
+    push_listed(out, spelled, bound, Some(variant), parts)?;
+    Ok(out.push_str(behind)?)
 }
 
 #[cycle(formula)]
-fn push_binary(
+fn push_binary<'a>(
     out: &mut String,
-    names: &Names,
+    spelled: &Spelled<'a>,
+    bound: &[Bound<'a>],
     op: TermBinary,
-    a: &Term,
-    b: &Term,
-) -> Result<(), AllocError> {
-    push_part(out, names, a)?;
+    a: &'a Term,
+    b: &'a Term,
+) -> Result<(), NoMemory> {
+    push_part(out, spelled, bound, a)?;
     out.push_str(binary_text(op))?;
-    push_part(out, names, b)
+    push_part(out, spelled, bound, b)
 }
 
 /// The formula, in parentheses where it has an operator between two parts, an `if` or a quantifier.
 #[cycle(formula)]
-fn push_part(out: &mut String, names: &Names, t: &Term) -> Result<(), AllocError> {
+fn push_part<'a>(
+    out: &mut String,
+    spelled: &Spelled<'a>,
+    bound: &[Bound<'a>],
+    t: &'a Term,
+) -> Result<(), NoMemory> {
     if !matches!(
         t.form(),
         TermForm::Binary(_, _, _) | TermForm::Choice(_, _, _) | TermForm::Quantified(_, _, _, _)
     ) {
-        return push_formula(out, names, t);
+        return push_formula(out, spelled, bound, t);
     }
     out.push('(')?;
-    push_formula(out, names, t)?;
-    out.push(')')
+    push_formula(out, spelled, bound, t)?;
+    Ok(out.push(')')?)
+}
+
+/// A part, by the name of its field where that is known, and else by its number.
+fn push_field<'a>(
+    out: &mut String,
+    spelled: &Spelled<'a>,
+    bound: &[Bound<'a>],
+    whole: &'a Term,
+    number: u32,
+) -> Result<(), NoMemory> {
+    match spelled.field(bound, whole, number) {
+        Some(name) => Ok(write!(out, ".{name}")?),
+        None => Ok(write!(out, ".{number}")?),
+    }
 }
 
 #[cycle(formula)]
-fn push_unary(out: &mut String, names: &Names, op: TermUnary, a: &Term) -> Result<(), AllocError> {
+fn push_unary<'a>(
+    out: &mut String,
+    spelled: &Spelled<'a>,
+    bound: &[Bound<'a>],
+    op: TermUnary,
+    a: &'a Term,
+) -> Result<(), NoMemory> {
     match op {
         TermUnary::Negative => out.push('-')?,
         TermUnary::Not => out.push('!')?,
         TermUnary::Model | TermUnary::Field(_) => {}
     }
-    push_part(out, names, a)?;
+    push_part(out, spelled, bound, a)?;
     match op {
-        TermUnary::Model => out.push('@'),
-        TermUnary::Field(number) => write!(out, ".{number}"),
+        TermUnary::Model => Ok(out.push('@')?),
+        TermUnary::Field(number) => push_field(out, spelled, bound, a, number),
         TermUnary::Negative | TermUnary::Not => Ok(()),
     }
 }
 
 /// `forall<x: S> A` or `exists<x: S> A`
 #[cycle(formula)]
-fn push_quantified(
+fn push_quantified<'a>(
     out: &mut String,
-    names: &Names,
+    spelled: &Spelled<'a>,
+    bound: &[Bound<'a>],
     word: Quantifier,
     name: Name,
-    sort: &Sort,
-    body: &Term,
-) -> Result<(), AllocError> {
-    let text = names.text(name).unwrap_or("_");
-    let sort = sort_text(sort);
+    sort: &'a Sort,
+    body: &'a Term,
+) -> Result<(), NoMemory> {
+    let text = spelled.variable(name);
+    let sorts = spelled.sort(sort)?;
     let word = match word {
         Quantifier::Forall => "forall",
         Quantifier::Exists => "exists",
     };
-    write!(out, "{word}<{text}: {sort}> ")?;
-    push_part(out, names, body)
+    write!(out, "{word}<{text}: {sorts}> ")?;
+    let mut inner = Vec::new(spelled.alloc);
+    for around in bound {
+        inner.push(*around)?;
+    }
+    inner.push(Bound { name, sort })?;
+    push_part(out, spelled, &inner, body)
 }
 
 /// `if A { B } else { C }`
 #[cycle(formula)]
-fn push_choice(
+fn push_choice<'a>(
     out: &mut String,
-    names: &Names,
-    condition: &Term,
-    first: &Term,
-    second: &Term,
-) -> Result<(), AllocError> {
+    spelled: &Spelled<'a>,
+    bound: &[Bound<'a>],
+    condition: &'a Term,
+    first: &'a Term,
+    second: &'a Term,
+) -> Result<(), NoMemory> {
     out.push_str("if ")?;
-    push_formula(out, names, condition)?;
+    push_formula(out, spelled, bound, condition)?;
     out.push_str(" { ")?;
-    push_formula(out, names, first)?;
+    push_formula(out, spelled, bound, first)?;
     out.push_str(" } else { ")?;
-    push_formula(out, names, second)?;
-    out.push_str(" }")
+    push_formula(out, spelled, bound, second)?;
+    Ok(out.push_str(" }")?)
 }
 
-/// The formula, each operand in parentheses that has an operator between two parts.
+/// The formula, each operand in parentheses that has an operator between two parts; names that are bound around it are these, the innermost last.
 #[cycle(formula)]
-pub(crate) fn push_formula(out: &mut String, names: &Names, t: &Term) -> Result<(), AllocError> {
+pub(crate) fn push_formula<'a>(
+    out: &mut String,
+    spelled: &Spelled<'a>,
+    bound: &[Bound<'a>],
+    t: &'a Term,
+) -> Result<(), NoMemory> {
     match t.form() {
-        TermForm::Var(name) => push_name(out, names, name),
-        TermForm::Lit(number, _) => write!(out, "{number}"),
-        TermForm::Truth(holds) => write!(out, "{holds}"),
-        TermForm::Make(_, parts) => push_parts(out, names, parts),
-        TermForm::Unary(op, a) => push_unary(out, names, op, a),
-        TermForm::Binary(op, a, b) => push_binary(out, names, op, a, b),
+        TermForm::Var(name) => Ok(out.push_str(spelled.variable(name))?),
+        TermForm::Lit(number, _) => Ok(write!(out, "{number}")?),
+        TermForm::Truth(holds) => Ok(write!(out, "{holds}")?),
+        TermForm::Make(ctor, parts) => push_made(out, spelled, bound, ctor, parts),
+        TermForm::Unary(op, a) => push_unary(out, spelled, bound, op, a),
+        TermForm::Binary(op, a, b) => push_binary(out, spelled, bound, op, a, b),
         TermForm::Choice(condition, first, second) => {
-            push_choice(out, names, condition, first, second)
+            push_choice(out, spelled, bound, condition, first, second)
         }
         TermForm::Quantified(word, name, sort, body) => {
-            push_quantified(out, names, word, name, sort, body)
+            push_quantified(out, spelled, bound, word, name, sort, body)
         }
     }
 }

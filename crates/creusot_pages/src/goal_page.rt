@@ -3,14 +3,15 @@ ghost use Rattle.std.specs.Prelude.{◌≡◌, ◌<◌, ◌+◌, ◌^◌, length
 
 use crate::attempt::{introduced, steps_done};
 use crate::naming::Words;
-use crate::opening::{Intro, push_opened};
+use crate::opening::{Intro, declared_by, push_opened};
 use crate::place::{Source, marked_line, place_text};
 use crate::sequent_page::push_sequent;
+use crate::spelling::Spelled;
 use logic_term::Obligation;
 use proof_kernel::Kernel;
 use proof_text::{NumberedStep, Proof};
 use std::alloc::Global;
-use text_core::{Kind, Names, NoMemory};
+use text_core::{Kind, NoMemory};
 use verify_core::Program;
 
 /// What is to be shown, that is the obligation, as the report calls it.
@@ -39,7 +40,7 @@ pub(crate) struct Accepted<'a> {
     pub(crate) words: &'a Words,
 }
 
-/// The proofs of a file of this name, with the table of their names.
+/// The proofs of a file of this name, whose names are those of the program's table.
 #[derive(Clone, Copy)]
 pub(crate) struct Proofs<'a> {
     pub(crate) name: &'a str,
@@ -95,7 +96,7 @@ fn push_unproved(
         alloc,
         out,
         obligation,
-        &accepted.program.tables,
+        accepted.program,
         &intro,
         "    ",
     )
@@ -113,7 +114,7 @@ fn line_of_stop(steps: &[NumberedStep], done: usize, end: u32) -> u32 {
 fn push_stop(
     alloc: Global,
     out: &mut String,
-    names: &Names,
+    program: &Program,
     kernel: &Kernel<'_>,
     steps: &[NumberedStep],
 ) -> Result<(), NoMemory>
@@ -122,7 +123,15 @@ fn push_stop(
     let variables = introduced(alloc, steps)?;
     let number = steps.len() as u32 + 1;
     match kernel.first() {
-        Some(q) => push_sequent(alloc, out, names, q, &variables, number, "    "),
+        Some(q) => {
+            let spelled = Spelled {
+                alloc,
+                variables: &program.names,
+                declared: declared_by(program),
+                sequent: q,
+            };
+            push_sequent(out, &spelled, &variables, number, "    ")
+        }
         None => Ok(out.push_str("    nothing is left to prove\n")?),
     }
 }
@@ -135,7 +144,6 @@ fn push_attempt(
     obligation: &Obligation,
     proof: &Proof,
     file: &str,
-    names: &Names,
 ) -> Result<(), NoMemory> {
     let steps = proof.steps.as_slice();
     if steps.len() >= u32::MAX as usize - 2 {
@@ -150,7 +158,7 @@ fn push_attempt(
     let line = line_of_stop(steps, done, proof.end);
     writeln!(out, "    {file}:{line}: the proof stops here, at")?;
     let (before, _) = steps.split_at(steps.len().min(done));
-    push_stop(alloc, out, names, &kernel, before)
+    push_stop(alloc, out, accepted.program, &kernel, before)
 }
 
 /// All obligations that are open, in order.
@@ -158,7 +166,6 @@ pub(crate) fn goals_text(
     alloc: Global,
     accepted: Accepted<'_>,
     proofs: Proofs<'_>,
-    names: &Names,
 ) -> Result<String, NoMemory> {
     let mut out = String::new(alloc);
     for owed in accepted.program.obligations.as_slice() {
@@ -166,7 +173,7 @@ pub(crate) fn goals_text(
         match proofs.proof_for(obligation) {
             Some(proof) => {
                 let file = proofs.name;
-                push_attempt(alloc, &mut out, accepted, obligation, proof, file, names)?;
+                push_attempt(alloc, &mut out, accepted, obligation, proof, file)?;
             }
             None => push_unproved(alloc, &mut out, accepted, obligation)?,
         }

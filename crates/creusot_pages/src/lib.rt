@@ -13,6 +13,7 @@ mod page;
 mod place;
 mod sequent_page;
 mod skeleton_page;
+mod spelling;
 
 pub use page::{Page, Verb, make_page};
 pub use place::Source;

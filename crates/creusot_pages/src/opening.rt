@@ -2,10 +2,13 @@
 use crate::attempt::takes;
 use crate::naming::{Words, leads, names_for};
 use crate::sequent_page::push_sequent;
+use crate::spelling::Spelled;
+use goal_text::Spelling;
 use logic_term::Obligation;
 use proof_kernel::{Kernel, Step, Tables};
 use std::alloc::Global;
 use text_core::{Items, Name, Names, NoMemory};
+use verify_core::Program;
 
 /// The names that an `intro` gives to what leads a goal, with their table.
 #[derive(Drop)]
@@ -52,13 +55,29 @@ pub(crate) fn push_opened(
     alloc: Global,
     out: &mut String,
     obligation: &Obligation,
-    tables: &Tables,
+    program: &Program,
     intro: &Intro,
     before: &str,
 ) -> Result<(), NoMemory> {
-    let kernel = opened(alloc, obligation, tables, intro)?;
+    let kernel = opened(alloc, obligation, &program.tables, intro)?;
     match kernel.first() {
-        Some(q) => push_sequent(alloc, out, &intro.names, q, &intro.given, 2, before),
+        Some(q) => {
+            let spelled = Spelled {
+                alloc,
+                variables: &intro.names,
+                declared: declared_by(program),
+                sequent: q,
+            };
+            push_sequent(out, &spelled, &intro.given, 2, before)
+        }
         None => Ok(()),
+    }
+}
+
+/// What the program declares, with the texts of its names.
+pub(crate) fn declared_by(program: &Program) -> Spelling<'_> {
+    Spelling {
+        adts: program.bodies.decls.as_slice(),
+        names: &program.names,
     }
 }

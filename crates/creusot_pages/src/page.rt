@@ -50,7 +50,7 @@ fn goals_page(
         name: proofs.name,
         proofs: file.proofs.as_slice(),
     };
-    Ok(goals_text(alloc, accepted, proofs, &program.names)?)
+    Ok(goals_text(alloc, accepted, proofs)?)
 }
 
 /// The page of a source that is accepted.

@@ -1,9 +1,8 @@
 //! A sequent: its variables, its hypotheses with their labels, and its goal.
-use crate::formula::{push_formula, sort_text};
+use crate::formula::push_formula;
+use crate::spelling::Spelled;
 use logic_term::{Label2, Term};
-use proof_kernel::Sequent;
-use std::alloc::{AllocError, Global};
-use text_core::{Name, Names, NoMemory};
+use text_core::{Name, NoMemory};
 
 /// After so many labels in a row that a step does not have it is asked for no more.
 const GAP: u32 = 16;
@@ -11,46 +10,44 @@ const GAP: u32 = 16;
 /// `  x: S`, where it is a variable of the sequent.
 fn push_variable(
     out: &mut String,
-    names: &Names,
-    q: &Sequent,
+    spelled: &Spelled<'_>,
     name: Name,
     before: &str,
-) -> Result<(), AllocError> {
-    let Some(sort) = q.sort_of(name) else {
+) -> Result<(), NoMemory> {
+    let Some(sort) = spelled.sequent.sort_of(name) else {
         return Ok(());
     };
-    let text = names.text(name).unwrap_or("_");
-    let sort = sort_text(sort);
-    writeln!(out, "{before}{text}: {sort}")
+    let text = spelled.variable(name);
+    let sort = spelled.sort(sort)?;
+    writeln!(out, "{before}{text}: {sort}")?;
+    Ok(())
 }
 
-fn push_hypothesis(
+fn push_hypothesis<'a>(
     out: &mut String,
-    names: &Names,
+    spelled: &Spelled<'a>,
     label: Label2,
-    hyp: &Term,
+    hyp: &'a Term,
     before: &str,
-) -> Result<(), AllocError> {
+) -> Result<(), NoMemory> {
     write!(out, "{before}{}.{}: ", label.step, label.part)?;
-    push_formula(out, names, hyp)?;
-    out.push('\n')
+    push_formula(out, spelled, &[], hyp)?;
+    Ok(out.push('\n')?)
 }
 
 /// The hypotheses that the step added.
 fn push_added(
-    alloc: Global,
     out: &mut String,
-    names: &Names,
-    q: &Sequent,
+    spelled: &Spelled<'_>,
     step: u32,
     before: &str,
 ) -> Result<(), NoMemory> {
     let mut missing: u32 = 0;
     for part in 1..u32::MAX {
         let label = Label2 { step, part };
-        match q.hypothesis(alloc, label)? {
+        match spelled.sequent.hypothesis(spelled.alloc, label)? {
             Some(hyp) => {
-                push_hypothesis(out, names, label, &hyp, before)?;
+                push_hypothesis(out, spelled, label, &hyp, before)?;
                 missing = 0;
             }
             None if missing >= GAP => return Ok(()),
@@ -63,34 +60,26 @@ fn push_added(
 /// What the sequent says. The variables that are shown are those of these names, and the hypotheses those of steps before
 /// the number. Each line begins with `before`.
 pub(crate) fn push_sequent(
-    alloc: Global,
     out: &mut String,
-    names: &Names,
-    q: &Sequent,
+    spelled: &Spelled<'_>,
     variables: &[Name],
     number: u32,
     before: &str,
 ) -> Result<(), NoMemory> {
     for name in variables {
-        push_variable(out, names, q, *name, before)?;
+        push_variable(out, spelled, *name, before)?;
     }
     for step in 1..number {
-        push_added(alloc, out, names, q, step, before)?;
+        push_added(out, spelled, step, before)?;
     }
-    push_goal(alloc, out, names, q, before)
+    push_goal(out, spelled, before)
 }
 
 /// `|- GOAL`
-fn push_goal(
-    alloc: Global,
-    out: &mut String,
-    names: &Names,
-    q: &Sequent,
-    before: &str,
-) -> Result<(), NoMemory> {
-    let goal = q.goal(alloc)?;
+fn push_goal(out: &mut String, spelled: &Spelled<'_>, before: &str) -> Result<(), NoMemory> {
+    let goal = spelled.sequent.goal(spelled.alloc)?;
     write!(out, "{before}|- ")?;
-    push_formula(out, names, &goal)?;
+    push_formula(out, spelled, &[], &goal)?;
     out.push('\n')?;
     Ok(())
 }

@@ -57,7 +57,7 @@ fn push_obligation(
         alloc,
         out,
         obligation,
-        &accepted.program.tables,
+        accepted.program,
         &intro,
         "#     ",
     )?;

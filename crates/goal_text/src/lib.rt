@@ -6,5 +6,6 @@ mod sort;
 mod spelling;
 mod term;
 
+pub use sort::sort_bytes;
 pub use spelling::Spelling;
 pub use term::goal_text;

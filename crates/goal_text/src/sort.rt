@@ -1,5 +1,5 @@
 //! Sorts as text.
-ghost use Rattle.std.specs.Prelude.{◌≡◌, ◌++◌, codes, flat_map, OnOk};
+ghost use Rattle.std.specs.Prelude.{◌≡◌, ◌++◌, codes, flat_map, IfOk, OnOk};
 ghost use Rattle.logic_term.specs.TyView.{compound_of, made_by, tys_of};
 ghost use Rattle.goal_text.specs.SortText.{arguments_text, commas, sort_text, sort_texts, suffix};
 ghost use Rattle.goal_text.specs.SpellingView.{spelling_of};
@@ -18,6 +18,19 @@ pub(crate) fn suffix_bytes(sort: &Sort) -> &'static [u8]
         TyNode::Int(kind) => kind_bytes(*kind),
         _ => b"",
     }
+}
+
+/// The sort as text, as it stands in goals. Its one error is want of memory.
+pub fn sort_bytes(
+    alloc: Global,
+    spelling: &Spelling<'_>,
+    sort: &Sort,
+) -> Result<Vec<u8>, NoMemory>
+    ensures { IfOk result (λ text. text.items ≡ sort_text (spelling_of spelling.now) sort.now) }
+{
+    let mut out = Vec::new(alloc);
+    push_sort(alloc, &mut out, spelling, sort)?;
+    Ok(out)
 }
 
 #[cycle(push_sort)]

@@ -1,22 +1,9 @@
--- What quantifiers bind: types with arguments, and what is bound around a term, from its outside.
-use Rattle.std.proofs.Common.{◌≡◌, ◌≤◌, ◌∙◌, List, [], ◌∷◌, ◌++◌, length, Option, Err, refl, ap, sym, arith}
+-- What quantifiers bind: what is bound around a term, from its outside.
+use Rattle.std.proofs.Common.{◌≡◌, ◌∙◌, List, [], ◌∷◌, ◌++◌, Option, refl, ap, sym}
 use Rattle.text_core.specs.declared.name.Name.{Name}
-use Rattle.text_core.specs.declared.span.Span.{Span}
 use Rattle.logic_term.specs.Term.{Quantifier, Term, bind}
-use Rattle.source_trees.specs.declared.path.Segment.{Segment}
-use Rattle.source_trees.specs.declared.types.TypeArgument.{TypeArgument}
-use Rattle.source_trees.specs.declared.types.TypeArgument.TheVariants as argument
-use Rattle.source_trees.specs.TypeTree.{named}
-use Rattle.source_trees.specs.TypeTreeView.{type_arguments_of}
 use Rattle.logic_elab.specs.declared.scope.Symbol.{Symbol}
-use Rattle.logic_elab.specs.Answers.{unbuilt}
-use Rattle.logic_elab.specs.Binders.{under_one, meant_under, inside, written_sort, bound_all}
-
--- a type with arguments is not built
-pub with_arguments : (s : Span) (x : Segment) (arguments : List TypeArgument) → 1 ≤ length arguments → written_sort (named s x (type_arguments_of arguments)) ≡ Err (unbuilt s)
-with_arguments s x [] h = absurd (omega arith)
-with_arguments s x (argument.Lifetime l ∷ rest) h = refl
-with_arguments s x (argument.Type w ∷ rest) h = refl
+use Rattle.logic_elab.specs.Binders.{under_one, meant_under, inside, bound_all}
 
 -- two lists of what is bound, one in the other
 pub inside_both : (cs bs xs : List Symbol) → inside cs (bs ++ xs) ≡ inside (inside cs bs) xs

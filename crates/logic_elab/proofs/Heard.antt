@@ -245,7 +245,7 @@ module _ (P : List Symbol → Ty → Term → Type 0) (Γ : Scope) (kept : (bs :
         let y = bound (elaborated_under Γ bs u) _ r x.2 in
         chosen_holds (P bs) Γ bs (kept bs) (span_of u) f.0 x.0 y.0 r (formula_holds (P bs) Γ bs (kept bs) (span_of c) a.0 f.0 (holds_of_each bs c a.0 a.1) f.1) (holds_of_each bs t x.0 x.1) (holds_of_each bs u y.0 y.1) y.2
     holds_of_each bs (T.quantified s q xs t) r p =
-        let ys = bound (symbols_of xs) _ r p in
+        let ys = bound (symbols_of Γ.types xs) _ r p in
         let a = bound (elaborated_under Γ (inside bs ys.0) t) _ r ys.2 in
         let f = bound (formula (span_of t) a.0) _ r a.2 in
         let under = inside bs ys.0 in

@@ -1,4 +1,5 @@
 pub mod Accepted
+pub mod ArgumentsByPart
 pub mod Binding
 pub mod Chains
 pub mod Heard

@@ -1,20 +1,16 @@
 -- What quantifiers bind in terms (Pearlite, Creusot), and what a name means under them. What stands around a term is listed with the innermost first, the
 -- binders of one quantifier as they are written. Formulas speak of what is bound by its name in the source.
-use Rattle.std.specs.Prelude.{◌==◌, cond, Bool, true, false, List, [], ◌∷◌, ◌++◌, Option, Some, None, Result, Ok, Err, slice_get, if◌then◌else◌}
+use Rattle.std.specs.Prelude.{◌==◌, cond, Bool, true, false, List, [], ◌∷◌, ◌++◌, Option, Some, None, Result, Ok, Err, if◌then◌else◌}
 use Rattle.text_core.specs.declared.name.Name.{Name}
 use Rattle.text_core.specs.declared.refusal.Code.TheVariants.{E06}
 use Rattle.text_core.specs.declared.refusal.SourceError.{SourceError}
 use Rattle.text_core.specs.declared.span.Span.{Span}
 use Rattle.logic_term.specs.Term.{Quantifier, Term, bind}
-use Rattle.logic_term.specs.Ty.{Ty, Tys, int, bool, math_int, tuple, no_tys, and_ty}
-use Rattle.rs_types.specs.declared.written.TypeName.{TypeName}
-use Rattle.rs_types.specs.declared.written.TypeName.TheVariants as name
-use Rattle.rs_types.specs.Meant.{words}
+use Rattle.logic_term.specs.declared.declaration.AdtDecl.{AdtDecl}
 use Rattle.source_trees.specs.declared.binder.Binder.{Binder}
-use Rattle.source_trees.specs.TypeTree as W
-use Rattle.source_trees.specs.TypeTreeView.{span_of as type_span}
 use Rattle.logic_elab.specs.declared.scope.Symbol.{Symbol}
-use Rattle.logic_elab.specs.Answers.{◌>>=◌, unbuilt}
+use Rattle.logic_elab.specs.Answers.{◌>>=◌}
+use Rattle.logic_elab.specs.WrittenSorts.{written_sort}
 
 -- ---- names under binders
 
@@ -39,33 +35,6 @@ inside bs (x ∷ xs) = inside (x ∷ bs) xs
 
 -- ---- binders
 
--- the types of machine integers, `bool` and `Int`
-abbrev pub sort_of_word : Option TypeName → Option Ty
-sort_of_word (Some (name.Int k)) = Some (int k)
-sort_of_word (Some name.Bool) = Some bool
-sort_of_word (Some name.MathInt) = Some math_int
-sort_of_word _ = None
-
-abbrev pub sort_or : Span → Option Ty → Result Ty SourceError
-sort_or s None = Err (unbuilt s)
-sort_or s (Some t) = Ok t
-
-abbrev mutual
-  -- the sort that is written: of a word, or of a tuple of such; no other type is built
-  pub written_sort : W.TypeTree → Result Ty SourceError
-  written_sort (W.named s x W.no_arguments) = sort_or s (sort_of_word (slice_get words x.name.0))
-  written_sort (W.tuple s ws) = do
-    ts ← written_sorts ws
-    Ok (tuple ts)
-  written_sort w = Err (unbuilt (type_span w))
-
-  pub written_sorts : W.Types → Result Tys SourceError
-  written_sorts W.none = Ok no_tys
-  written_sorts (W.more w ws) = do
-    t ← written_sort w
-    ts ← written_sorts ws
-    Ok (and_ty t ts)
-
 abbrev pub is_bound : Name → List Symbol → Bool
 is_bound x [] = false
 is_bound x (b ∷ bs) = if x.0 == b.name.0 then true else is_bound x bs
@@ -74,22 +43,22 @@ is_bound x (b ∷ bs) = if x.0 == b.name.0 then true else is_bound x bs
 abbrev pub double_name : Span → SourceError
 double_name s = record { code = E06; span = s; other = None }
 
--- the binder, after others of its quantifier
-abbrev pub symbol_after : List Symbol → Binder → Result Symbol SourceError
-symbol_after xs b =
+-- the binder, after others of its quantifier, where these types are declared
+abbrev pub symbol_after : List AdtDecl → List Symbol → Binder → Result Symbol SourceError
+symbol_after ds xs b =
     if is_bound b.name.name xs then Err (double_name b.name.span) else (do
-      t ← written_sort b.ty
+      t ← written_sort ds b.ty
       Ok (record { name = b.name.name; sort = t }))
 
-abbrev pub symbols_after : List Symbol → List Binder → Result (List Symbol) SourceError
-symbols_after xs [] = Ok xs
-symbols_after xs (b ∷ bs) = do
-  x ← symbol_after xs b
-  symbols_after (xs ++ x ∷ []) bs
+abbrev pub symbols_after : List AdtDecl → List Symbol → List Binder → Result (List Symbol) SourceError
+symbols_after ds xs [] = Ok xs
+symbols_after ds xs (b ∷ bs) = do
+  x ← symbol_after ds xs b
+  symbols_after ds (xs ++ x ∷ []) bs
 
 -- the binders of a quantifier, from the left
-abbrev pub symbols_of : List Binder → Result (List Symbol) SourceError
-symbols_of bs = symbols_after [] bs
+abbrev pub symbols_of : List AdtDecl → List Binder → Result (List Symbol) SourceError
+symbols_of ds bs = symbols_after ds [] bs
 
 -- the formula over values of these: for all of them, or for some
 abbrev pub bound_all : Quantifier → List Symbol → Term → Term

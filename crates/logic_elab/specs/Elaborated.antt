@@ -194,7 +194,7 @@ abbrev mutual
     y ← elaborated_under Γ bs u
     chosen (span_of u) p x y
   elaborated_under Γ bs (T.quantified s q xs t) = do
-    ys ← symbols_of xs
+    ys ← symbols_of Γ.types xs
     a ← elaborated_under Γ (inside bs ys) t
     p ← formula (span_of t) a
     Ok (sorted bool (bound_all (quantifier_of q) ys p))

@@ -6,3 +6,4 @@ pub mod Laws
 pub mod Parts
 pub mod Scope
 pub mod Sorts
+pub mod WrittenSorts

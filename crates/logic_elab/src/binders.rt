@@ -1,19 +1,16 @@
 //! What quantifiers bind. The code has the bound names around a term with the outermost first.
 ghost use Rattle.std.specs.Prelude.{◌≡◌, ◌++◌, [], IfOk};
-ghost use Rattle.logic_term.specs.TyView.{tys_of};
-ghost use Rattle.source_trees.specs.TypeTree.{named};
-ghost use Rattle.source_trees.specs.TypeTreeView.{type_arguments_of, types_of};
-ghost use Rattle.logic_elab.specs.Answers.{Answers, AnswersAs};
-ghost use Rattle.logic_elab.specs.Binders.{apart, under_one, meant_under, inside, sort_of_word, written_sort, written_sorts, is_bound, symbol_after, symbols_of, bound_all};
+ghost use Rattle.logic_elab.specs.Answers.{Answers};
+ghost use Rattle.logic_elab.specs.Binders.{apart, under_one, meant_under, inside, is_bound, symbol_after, symbols_of, bound_all};
 ghost use Rattle.logic_term.specs.TermOperator.{quantifier};
 
-use crate::refusal::{double_name, unbuilt};
+use crate::refusal::double_name;
 use crate::scope::Symbol;
-use logic_term::{Quantifier, Term, Ty, TyNode};
-use rs_types::{TypeName, word_of};
-use source_trees::{Binder, Segment, TypeArgument, TypeNode, TypeTree};
+use crate::written_sorts::written_sort;
+use logic_term::{AdtDecl, Quantifier, Term};
+use source_trees::Binder;
 use std::alloc::Global;
-use text_core::{Items, Name, NoMemory, PassError, Span};
+use text_core::{Items, Name, NoMemory, PassError};
 
 // ---- names under binders
 
@@ -93,62 +90,6 @@ pub(crate) fn symbols_inside(
 
 // ---- binders
 
-fn sort_of_word(word: Option<TypeName>) -> Option<Ty>
-    ensures { result ≡ sort_of_word word }
-{
-    match word {
-        Some(TypeName::Int(kind)) => Some(Ty::int(kind)),
-        Some(TypeName::Bool) => Some(Ty::bool()),
-        Some(TypeName::MathInt) => Some(Ty::math_int()),
-        Some(TypeName::Parameter(_) | TypeName::Declared(_) | TypeName::Box) | None => None,
-    }
-}
-
-/// The sort that a word is; the span is that of the type.
-#[tactic(auto, using(crate::proofs::Binding::with_arguments))]
-fn named_sort(span: Span, name: Segment, arguments: &[TypeArgument]) -> Result<Ty, PassError>
-    ensures { Answers result (written_sort (named span name (type_arguments_of arguments.now))) }
-{
-    if !arguments.is_empty() {
-        return Err(unbuilt(span));
-    }
-    match sort_of_word(word_of(name.name)) {
-        Some(sort) => Ok(sort),
-        None => Err(unbuilt(span)),
-    }
-}
-
-/// The sorts of the parts of a tuple, from the left.
-#[cycle(written_sort)]
-fn written_sorts(alloc: Global, written: &[TypeTree]) -> Result<Vec<Ty>, PassError>
-    ensures { AnswersAs result (written_sorts (types_of written.now)) (λ v. tys_of v.items) }
-{
-    let mut sorts = Vec::with_capacity(alloc, written.len())?;
-    for i in 0..written.len() {
-        let sort = written_sort(alloc, &written[i])?;
-        sorts.push(sort)?;
-    }
-    Ok(sorts)
-}
-
-/// The sort that is written: a type of machine integers, `bool`, `Int`, or a tuple of such.
-#[cycle(written_sort)]
-fn written_sort(alloc: Global, written: &TypeTree) -> Result<Ty, PassError>
-    ensures { Answers result (written_sort written.now) }
-{
-    let span = written.span;
-    match &*written.node {
-        TypeNode::Named(name, arguments) => named_sort(span, *name, arguments),
-        TypeNode::Tuple(parts) => {
-            let node = TyNode::Tuple(written_sorts(alloc, parts)?);
-            Ok(Ty { node })
-        }
-        TypeNode::Reference(_, _, _) | TypeNode::SelfType | TypeNode::SelfView => {
-            Err(unbuilt(span))
-        }
-    }
-}
-
 fn is_bound(name: Name, symbols: &[Symbol]) -> bool
     ensures { result ≡ is_bound name symbols.now }
 {
@@ -160,15 +101,20 @@ fn is_bound(name: Name, symbols: &[Symbol]) -> bool
     false
 }
 
-/// The binder, after others of its quantifier.
-fn symbol_after(alloc: Global, before: &[Symbol], binder: &Binder) -> Result<Symbol, PassError>
-    ensures { Answers result (symbol_after before.now binder.now) }
+/// The binder, after others of its quantifier, where these types are declared.
+fn symbol_after(
+    alloc: Global,
+    declared: &[AdtDecl],
+    before: &[Symbol],
+    binder: &Binder,
+) -> Result<Symbol, PassError>
+    ensures { Answers result (symbol_after declared.now before.now binder.now) }
 {
     let name = binder.name;
     if is_bound(name.name, before) {
         return Err(double_name(name.span));
     }
-    let sort = written_sort(alloc, &binder.ty)?;
+    let sort = written_sort(alloc, declared, &binder.ty)?;
     Ok(Symbol {
         name: name.name,
         sort,
@@ -176,12 +122,16 @@ fn symbol_after(alloc: Global, before: &[Symbol], binder: &Binder) -> Result<Sym
 }
 
 /// The binders of a quantifier, from the left.
-pub(crate) fn symbols_of(alloc: Global, binders: &[Binder]) -> Result<Items<Symbol>, PassError>
-    ensures { Answers result (symbols_of binders.now) }
+pub(crate) fn symbols_of(
+    alloc: Global,
+    declared: &[AdtDecl],
+    binders: &[Binder],
+) -> Result<Items<Symbol>, PassError>
+    ensures { Answers result (symbols_of declared.now binders.now) }
 {
     let mut symbols = Items::new(alloc);
     for binder in binders {
-        let symbol = symbol_after(alloc, symbols.as_slice(), binder)?;
+        let symbol = symbol_after(alloc, declared, symbols.as_slice(), binder)?;
         symbols.push(symbol)?;
     }
     Ok(symbols)

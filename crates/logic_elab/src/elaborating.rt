@@ -476,7 +476,7 @@ fn elaborate_quantified<S: TermScope>(
 ) -> Result<SortedTerm, PassError>
     ensures { (s : Span) → Answers result (elaborated_under (S.scope scope.now) (inside [] bound.now) (quantified s word binders.now body.now)) }
 {
-    let symbols = symbols_of(alloc, binders)?;
+    let symbols = symbols_of(alloc, scope.types(), binders)?;
     let inner = symbols_inside(alloc, bound, symbols.as_slice())?;
     let formula = elaborate_formula_under(alloc, scope, inner.as_slice(), body)?;
     let formula = bound_all(alloc, quantifier_of(word), symbols, formula.into_inner())?;

@@ -10,6 +10,7 @@ mod refusal;
 mod scope;
 mod sorted;
 mod sorts;
+mod written_sorts;
 
 pub use elaborating::{elaborate, elaborate_formula};
 pub use laws::{elaborated_terms_are_sorted, elaborated_terms_speak_of_their_scope};

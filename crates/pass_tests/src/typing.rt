@@ -540,7 +540,7 @@ fn forms_that_have_no_type_yet(rt: HostRuntime) {
     expect(&rt, rt.alloc(), &FORMS_THAT_HAVE_NO_TYPE_YET);
 }
 
-const QUANTIFIED_TERMS: [Row; 20] = [
+const QUANTIFIED_TERMS: [Row; 27] = [
     (
         b"#[ensures(forall<k: Int> k <= result@ ==> k <= x@)] fn f(x: i32) -> i32 { x }",
         None,
@@ -583,7 +583,7 @@ const QUANTIFIED_TERMS: [Row; 20] = [
     ),
     (
         b"struct S; #[requires(forall<k: Int, s: S> k)] fn f() {}",
-        Some((Code::E20, 39, 40)),
+        Some((Code::E07, 42, 43)),
     ),
     (b"#[requires(forall<p: (Int, bool)> true)] fn f() {}", None),
     (
@@ -609,6 +609,34 @@ const QUANTIFIED_TERMS: [Row; 20] = [
         None,
     ),
     (b"fn f(x: Int) {}", Some((Code::E05, 8, 11))),
+    (
+        b"struct P { x: i32, y: bool } #[requires(forall<p: P> p.y ==> p == p)] fn f() {}",
+        None,
+    ),
+    (
+        b"struct W<T> { x: T } #[requires(forall<w: W<bool>> w.x)] fn f() {}",
+        None,
+    ),
+    (
+        b"#[requires(exists<o: Option<i32>> o == o)] fn f() {}",
+        None,
+    ),
+    (
+        b"struct W<T> { x: T } #[requires(forall<w: W> true)] fn f() {}",
+        Some((Code::E07, 42, 43)),
+    ),
+    (
+        b"#[requires(forall<p: bool<u8>> true)] fn f() {}",
+        Some((Code::E07, 21, 29)),
+    ),
+    (
+        b"#[requires(forall<p: T> true)] fn f() {}",
+        Some((Code::E05, 21, 22)),
+    ),
+    (
+        b"struct R<'a> { r: &'a u8 } #[requires(forall<r: R> true)] fn f() {}",
+        Some((Code::E20, 48, 49)),
+    ),
 ];
 
 /// What a quantifier binds hides other variables, and the answer, in its body alone.
@@ -652,7 +680,7 @@ const TUPLE_TERMS: [Row; 12] = [
     ),
     (
         b"struct S; #[requires(forall<p: (Int, S)> true)] fn f() {}",
-        Some((Code::E20, 37, 38)),
+        None,
     ),
 ];
 

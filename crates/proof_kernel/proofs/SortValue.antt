@@ -7,8 +7,8 @@ use Rattle.logic_term.specs.Ty.{Ty, bool, math_int}
 use Rattle.logic_term.specs.Value.{Value, Number, Flag, integer_of, flag_of}
 use Rattle.logic_term.specs.Sort.{HasSort, instance}
 use Rattle.logic_term.specs.Theory.{declared}
-use Rattle.logic_term.specs.Term.{modeled, negated, denied, arith as by_op, less, at_most, equal, both, either, implied, every, some, Term, var, lit, truth, apply, bind, not, is_at_most, is_equal, implies}
-use Rattle.logic_term.specs.Meaning.{Sure, Structure, Env, Means, Holds, calculated}
+use Rattle.logic_term.specs.Term.{modeled, negated, denied, arith as by_op, less, at_most, equal, both, either, implied, choice, every, some, Term, var, lit, truth, apply, bind, no_terms, and_term, not, is_at_most, is_equal, implies}
+use Rattle.logic_term.specs.Meaning.{Sure, Structure, Env, Means, Holds, Picked, calculated}
 use Rattle.logic_term.proofs.Alike.{sure_map}
 use Rattle.logic_term.proofs.SortParts.{parts}
 use Rattle.logic_term.proofs.Truth.{holds_not, holds_implies, holds_equal}
@@ -50,6 +50,10 @@ module _ (S : Structure) (vars : List (Name × Ty)) (ρ : Env) (z : InSorts S va
   var_number x (Some t) e b =
       parts (declared S.theory) (ρ x) math_int (subst (λ (u : Ty). HasSort (declared S.theory) (ρ x) (instance S.types u)) (int_sort t b) (sorted S x vars t ρ e z))
 
+  chosen_flag : {v : Value} (a b : Term) → (Means S a ρ v → IsFlag v) → (Means S b ρ v → IsFlag v) → (j : Bool) → Picked j (Means S a ρ) (Means S b ρ) v → IsFlag v
+  chosen_flag a b f g true m = f m
+  chosen_flag a b f g false m = g m
+
   formula_value : (t : Term) → is_formula vars t ≡ true → (v : Value) → Means S t ρ v → IsFlag v
   formula_value (var x) e v m = let p = var_flag x (sort_of x vars) refl e in (p.0, m ∙ p.1)
   formula_value (truth b) e v m = (b, m)
@@ -60,6 +64,9 @@ module _ (S : Structure) (vars : List (Name × Ty)) (ρ : Env) (z : InSorts S va
   formula_value (apply both ts) e v m = (m.0, m.1)
   formula_value (apply either ts) e v m = (m.0, m.1)
   formula_value (apply implied ts) e v m = (m.0, m.1)
+  formula_value (apply choice (and_term c (and_term a (and_term b no_terms)))) e v m =
+      let are = and_true (is_formula vars a) (is_formula vars b) e in
+      chosen_flag a b (formula_value a are.0 v) (formula_value b are.1 v) m.0 m.2
   formula_value (bind every x s t) e v m = (m.0, m.1)
   formula_value (bind some x s t) e v m = (m.0, m.1)
   formula_value t e v m = absurd (cc)

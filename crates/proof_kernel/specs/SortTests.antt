@@ -2,7 +2,7 @@
 use Rattle.std.specs.Prelude.{◌&&◌, Bool, true, false, List, Option, Some, None}
 use Rattle.text_core.specs.declared.name.Name.{Name}
 use Rattle.logic_term.specs.Ty.{Ty, bool}
-use Rattle.logic_term.specs.Term.{denied, less, at_most, equal, both, either, implied, Term, var, truth, apply, bind}
+use Rattle.logic_term.specs.Term.{denied, less, at_most, equal, both, either, implied, choice, Term, var, truth, apply, bind, no_terms, and_term}
 use Rattle.proof_kernel.specs.Linear.{is_integer}
 use Rattle.proof_kernel.specs.Rules.{sort_of}
 
@@ -14,7 +14,7 @@ abbrev pub is_bool_var : Option Ty → Bool
 is_bool_var None = false
 is_bool_var (Some t) = is_bool t
 
--- the term has the sort bool
+-- the term has the sort bool; an `if` where both its sides do
 abbrev pub is_formula : List (Name × Ty) → Term → Bool
 is_formula vars (var x) = is_bool_var (sort_of x vars)
 is_formula vars (truth b) = true
@@ -25,6 +25,7 @@ is_formula vars (apply equal ts) = true
 is_formula vars (apply both ts) = true
 is_formula vars (apply either ts) = true
 is_formula vars (apply implied ts) = true
+is_formula vars (apply choice (and_term c (and_term a (and_term b no_terms)))) = is_formula vars a && is_formula vars b
 is_formula vars (bind q x s t) = true
 is_formula vars t = false
 

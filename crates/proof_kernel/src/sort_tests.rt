@@ -18,16 +18,17 @@ fn is_bool_var(q: &Sequent, name: Name) -> bool
     }
 }
 
-/// Whether the term has the sort bool.
+/// Whether the term has the sort bool: an `if` where both its sides do.
+#[cycle(is_formula)]
 fn is_formula(q: &Sequent, t: &Term) -> bool
     ensures { result ≡ is_formula q.now.vars t.now }
 {
     match t.form() {
         TermForm::Var(name) => is_bool_var(q, name),
+        TermForm::Choice(_, a, b) => is_formula(q, a) && is_formula(q, b),
         TermForm::Lit(_, _)
         | TermForm::Make(_, _)
         | TermForm::Unary(TermUnary::Model | TermUnary::Negative | TermUnary::Field(_), _)
-        | TermForm::Choice(_, _, _)
         | TermForm::Binary(TermBinary::Arith(_), _, _) => false,
         _ => true,
     }

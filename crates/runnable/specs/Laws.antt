@@ -1,5 +1,5 @@
 -- What holds of every program.
-use Rattle.std.specs.Prelude.{◌≡◌, ℕ, true, List, map, None, Some, slice_get}
+use Rattle.std.specs.Prelude.{◌≡◌, ◌↔◌, ℕ, true, IsTrue, List, map, None, Some, slice_get}
 use Rattle.logic_term.specs.declared.declaration.AdtDecl.{AdtDecl}
 use Rattle.logic_term.specs.declared.declaration.VariantDecl.{VariantDecl}
 use Rattle.logic_term.specs.Sort.{instance}
@@ -8,11 +8,13 @@ use Rattle.logic_term.specs.Ty.{Ty, no_tys}
 use Rattle.logic_term.specs.TyView.{tys_of}
 use Rattle.source_trees.specs.declared.item.Item.{Item}
 use Rattle.rs_types.specs.Checked.{AllPass}
+use Rattle.rs_types.specs.Copied.{IsCopy}
 use Rattle.rs_types.specs.Growing.{declared_by}
 use Rattle.rs_types.specs.Inhabited.{HasValue}
 use Rattle.declared_types.specs.DeclaredTypes.{declared_types}
 use Rattle.declared_types.specs.Declaring.{checks}
 use Rattle.type_check.specs.declared.program.TypedProgram.{TypedProgram}
+use Rattle.runnable.specs.CopyDecided.{is_copied}
 use Rattle.runnable.specs.Plain.{ProgramIsPlain}
 use Rattle.runnable.specs.Runs.{is_owned, are_owned}
 use Rattle.runnable.specs.Unrun.{first_unrun}
@@ -32,3 +34,7 @@ FieldsAreOwned = (is : List Item) (d : ℕ) (c : AdtDecl) (k : ℕ) (v : Variant
 -- where what the source declares is in order, each type that holds no references has a value
 abbrev pub OwnedTypesHaveValues : Type 0
 OwnedTypesHaveValues = (is : List Item) → AllPass (declared_types is) (checks is) → (t : Ty) → is_owned (declared_types is) t ≡ true → HasValue (declared_by (declared_types is)) (instance no_tys t)
+
+-- the types that rows say to be Copy are those that are
+abbrev pub CopyTypesAreTold : Type 0
+CopyTypesAreTold = (ds : List AdtDecl) (t : Ty) → IsTrue (is_copied ds t) ↔ IsCopy ds t

@@ -1,5 +1,5 @@
 //! What holds of every program.
-ghost use Rattle.runnable.specs.Laws.{FieldsAreOwned, OwnedTypesHaveValues, PlainProgramsRun, ProgramsThatRunArePlain};
+ghost use Rattle.runnable.specs.Laws.{CopyTypesAreTold, FieldsAreOwned, OwnedTypesHaveValues, PlainProgramsRun, ProgramsThatRunArePlain};
 
 /// Where nothing of a program is found that does not run yet, it is plain, and only there.
 pub fn programs_that_run_are_plain()
@@ -12,4 +12,9 @@ pub fn programs_that_run_are_plain()
 pub fn owned_types_are_valued()
     ensures fields { FieldsAreOwned }
     ensures values { OwnedTypesHaveValues }
+{}
+
+/// Which types are Copy (Rust Reference, "Special types and traits", `Copy`) is told by the rows from which it is computed.
+pub fn copy_types_are_told()
+    ensures { CopyTypesAreTold }
 {}

@@ -5,5 +5,5 @@ mod laws;
 mod running;
 mod types;
 
-pub use laws::{owned_types_are_valued, programs_that_run_are_plain};
+pub use laws::{copy_types_are_told, owned_types_are_valued, programs_that_run_are_plain};
 pub use running::first_unrun;

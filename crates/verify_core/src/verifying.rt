@@ -16,7 +16,7 @@ use text_core::{Limit, LimitKind, Names};
 pub const PROOF_BYTES: usize = 1 << 26;
 
 /// The proofs that the bytes of a file spell. A text has the name that the table gave it, and the other texts of the file get the next
-/// ones, in order of first use: so by the table of a source its proofs speak of the fields that it declares.
+/// ones, in order of first use: so by the table of a source its proofs speak of the fields and the types that it declares.
 ///
 /// Errors: `Proof` with the first bad line, 1-based; `Limit` where there are more than 67,108,864 bytes; `NoMemory`; never `Source`.
 pub fn proofs_of(alloc: Global, names: &mut Names, bytes: &[u8]) -> Result<ProofFile, Refusal>
