@@ -1,5 +1,5 @@
 //! Terms as contracts spell them, with the names of variables.
-use crate::spelling::{Bound, Spelled};
+use crate::spelling::{Bound, Spelled, bound_inside, field_of};
 use logic_term::{
     Ctor, Quantifier, Sort, Term, TermBinary, TermForm, TermUnary, VariantDecl, VariantKind,
 };
@@ -34,12 +34,12 @@ fn brackets(kind: VariantKind) -> (&'static str, &'static str) {
 /// The terms, with a comma between them.
 #[cycle(formula)]
 #[tactic(auto, using(logic_term::specs::TermFalls::each_smaller))]
-fn push_listed<'a>(
+fn push_listed(
     out: &mut String,
-    spelled: &Spelled<'a>,
-    bound: &[Bound<'a>],
+    spelled: &Spelled<'_>,
+    bound: &[Bound],
     variant: Option<&VariantDecl>,
-    parts: &'a [Term],
+    parts: &[Term],
 ) -> Result<(), NoMemory> {
     for i in 0..parts.len() {
         if i > 0 {
@@ -55,11 +55,11 @@ fn push_listed<'a>(
 
 /// `(A, B)`, and `(A,)` of one part.
 #[cycle(formula)]
-fn push_tuple<'a>(
+fn push_tuple(
     out: &mut String,
-    spelled: &Spelled<'a>,
-    bound: &[Bound<'a>],
-    parts: &'a [Term],
+    spelled: &Spelled<'_>,
+    bound: &[Bound],
+    parts: &[Term],
 ) -> Result<(), NoMemory> {
     out.push('(')?;
     push_listed(out, spelled, bound, None, parts)?;
@@ -71,12 +71,12 @@ fn push_tuple<'a>(
 
 /// A value of parts: a tuple, `Path`, `Path(A, B)` or `Path { f: A, g: B }`.
 #[cycle(formula)]
-fn push_made<'a>(
+fn push_made(
     out: &mut String,
-    spelled: &Spelled<'a>,
-    bound: &[Bound<'a>],
+    spelled: &Spelled<'_>,
+    bound: &[Bound],
     ctor: Ctor,
-    parts: &'a [Term],
+    parts: &[Term],
 ) -> Result<(), NoMemory> {
     let made = match ctor {
         Ctor::Variant(id, number) => spelled.variant(id, number),
@@ -93,13 +93,13 @@ fn push_made<'a>(
 }
 
 #[cycle(formula)]
-fn push_binary<'a>(
+fn push_binary(
     out: &mut String,
-    spelled: &Spelled<'a>,
-    bound: &[Bound<'a>],
+    spelled: &Spelled<'_>,
+    bound: &[Bound],
     op: TermBinary,
-    a: &'a Term,
-    b: &'a Term,
+    a: &Term,
+    b: &Term,
 ) -> Result<(), NoMemory> {
     push_part(out, spelled, bound, a)?;
     out.push_str(binary_text(op))?;
@@ -108,11 +108,11 @@ fn push_binary<'a>(
 
 /// The formula, in parentheses where it has an operator between two parts, an `if` or a quantifier.
 #[cycle(formula)]
-fn push_part<'a>(
+fn push_part(
     out: &mut String,
-    spelled: &Spelled<'a>,
-    bound: &[Bound<'a>],
-    t: &'a Term,
+    spelled: &Spelled<'_>,
+    bound: &[Bound],
+    t: &Term,
 ) -> Result<(), NoMemory> {
     if !matches!(
         t.form(),
@@ -126,26 +126,29 @@ fn push_part<'a>(
 }
 
 /// A part, by the name of its field where that is known, and else by its number.
-fn push_field<'a>(
+fn push_field(
     out: &mut String,
-    spelled: &Spelled<'a>,
-    bound: &[Bound<'a>],
-    whole: &'a Term,
+    spelled: &Spelled<'_>,
+    bound: &[Bound],
+    whole: &Term,
     number: u32,
 ) -> Result<(), NoMemory> {
-    match spelled.field(bound, whole, number) {
-        Some(name) => Ok(write!(out, ".{name}")?),
+    match field_of(spelled, bound, whole, number)? {
+        Some(name) => {
+            out.push('.')?;
+            Ok(out.push_str(spelled.text(name))?)
+        }
         None => Ok(write!(out, ".{number}")?),
     }
 }
 
 #[cycle(formula)]
-fn push_unary<'a>(
+fn push_unary(
     out: &mut String,
-    spelled: &Spelled<'a>,
-    bound: &[Bound<'a>],
+    spelled: &Spelled<'_>,
+    bound: &[Bound],
     op: TermUnary,
-    a: &'a Term,
+    a: &Term,
 ) -> Result<(), NoMemory> {
     match op {
         TermUnary::Negative => out.push('-')?,
@@ -162,14 +165,14 @@ fn push_unary<'a>(
 
 /// `forall<x: S> A` or `exists<x: S> A`
 #[cycle(formula)]
-fn push_quantified<'a>(
+fn push_quantified(
     out: &mut String,
-    spelled: &Spelled<'a>,
-    bound: &[Bound<'a>],
+    spelled: &Spelled<'_>,
+    bound: &[Bound],
     word: Quantifier,
     name: Name,
-    sort: &'a Sort,
-    body: &'a Term,
+    sort: &Sort,
+    body: &Term,
 ) -> Result<(), NoMemory> {
     let text = spelled.variable(name);
     let sorts = spelled.sort(sort)?;
@@ -178,23 +181,19 @@ fn push_quantified<'a>(
         Quantifier::Exists => "exists",
     };
     write!(out, "{word}<{text}: {sorts}> ")?;
-    let mut inner = Vec::new(spelled.alloc);
-    for around in bound {
-        inner.push(*around)?;
-    }
-    inner.push(Bound { name, sort })?;
+    let inner = bound_inside(spelled.alloc, bound, name, sort)?;
     push_part(out, spelled, &inner, body)
 }
 
 /// `if A { B } else { C }`
 #[cycle(formula)]
-fn push_choice<'a>(
+fn push_choice(
     out: &mut String,
-    spelled: &Spelled<'a>,
-    bound: &[Bound<'a>],
-    condition: &'a Term,
-    first: &'a Term,
-    second: &'a Term,
+    spelled: &Spelled<'_>,
+    bound: &[Bound],
+    condition: &Term,
+    first: &Term,
+    second: &Term,
 ) -> Result<(), NoMemory> {
     out.push_str("if ")?;
     push_formula(out, spelled, bound, condition)?;
@@ -207,11 +206,11 @@ fn push_choice<'a>(
 
 /// The formula, each operand in parentheses that has an operator between two parts; names that are bound around it are these, the innermost last.
 #[cycle(formula)]
-pub(crate) fn push_formula<'a>(
+pub(crate) fn push_formula(
     out: &mut String,
-    spelled: &Spelled<'a>,
-    bound: &[Bound<'a>],
-    t: &'a Term,
+    spelled: &Spelled<'_>,
+    bound: &[Bound],
+    t: &Term,
 ) -> Result<(), NoMemory> {
     match t.form() {
         TermForm::Var(name) => Ok(out.push_str(spelled.variable(name))?),

@@ -92,14 +92,7 @@ fn push_unproved(
     let intro = Intro::of(alloc, accepted.words, obligation)?;
     push_heading(alloc, out, accepted.source, obligation)?;
     out.push_str("    no proof\n")?;
-    push_opened(
-        alloc,
-        out,
-        obligation,
-        accepted.program,
-        &intro,
-        "    ",
-    )
+    push_opened(alloc, out, obligation, accepted.program, &intro, "    ")
 }
 
 /// The line of the step that is refused, or of the `end` where sequents are left.

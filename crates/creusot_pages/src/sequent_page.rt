@@ -23,11 +23,11 @@ fn push_variable(
     Ok(())
 }
 
-fn push_hypothesis<'a>(
+fn push_hypothesis(
     out: &mut String,
-    spelled: &Spelled<'a>,
+    spelled: &Spelled<'_>,
     label: Label2,
-    hyp: &'a Term,
+    hyp: &Term,
     before: &str,
 ) -> Result<(), NoMemory> {
     write!(out, "{before}{}.{}: ", label.step, label.part)?;

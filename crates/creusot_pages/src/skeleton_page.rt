@@ -53,14 +53,7 @@ fn push_obligation(
 ) -> Result<(), NoMemory> {
     let intro = Intro::of(alloc, accepted.words, obligation)?;
     push_comment(alloc, out, accepted, obligation)?;
-    push_opened(
-        alloc,
-        out,
-        obligation,
-        accepted.program,
-        &intro,
-        "#     ",
-    )?;
+    push_opened(alloc, out, obligation, accepted.program, &intro, "#     ")?;
     push_proof(alloc, out, obligation, &intro)
 }
 

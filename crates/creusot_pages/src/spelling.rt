@@ -1,8 +1,8 @@
 //! What sequents are spelled by: the texts of variables, the declared types, and the sorts of variables.
 use goal_text::{Spelling, sort_bytes};
 use logic_term::{
-    AdtDecl, AdtId, CompoundTy, FieldDecl, Sort, Term, TermForm, TermUnary, Ty, TyNode, VariantDecl,
-    VariantKind,
+    AdtDecl, AdtId, CompoundTy, FieldDecl, Sort, Term, TermForm, TermUnary, Ty, TyNode,
+    VariantDecl, VariantKind,
 };
 use proof_kernel::Sequent;
 use std::alloc::Global;
@@ -18,14 +18,20 @@ pub(crate) struct Spelled<'a> {
 }
 
 /// A name that a quantifier binds around a term, with its sort.
-#[derive(Clone, Copy)]
-pub(crate) struct Bound<'a> {
+#[derive(Drop)]
+pub(crate) struct Bound {
     pub(crate) name: Name,
-    pub(crate) sort: &'a Sort,
+    pub(crate) sort: Sort,
 }
 
-/// The struct that is declared; `None` where it is none.
-fn struct_of(adts: &[AdtDecl], id: AdtId) -> Option<&VariantDecl> {
+/// The fields of the sort, where it is a struct.
+fn struct_of<'a>(adts: &'a [AdtDecl], sort: &Sort) -> Option<&'a VariantDecl> {
+    let TyNode::Compound(parts) = &sort.node else {
+        return None;
+    };
+    let CompoundTy::Adt(id, _, _) = &**parts else {
+        return None;
+    };
     let decl = adts.get(id.0 as usize)?;
     if decl.is_struct {
         decl.variants.get(0)
@@ -34,37 +40,129 @@ fn struct_of(adts: &[AdtDecl], id: AdtId) -> Option<&VariantDecl> {
     }
 }
 
-/// The type, where a parameter of the declared type is the argument of its number; `None` where that is a parameter itself.
-fn argument_or<'a>(ty: &'a Ty, arguments: &'a [Ty]) -> Option<&'a Sort> {
-    let sort = match &ty.node {
-        TyNode::Param(number) => arguments.get(*number as usize)?,
-        _ => ty,
-    };
+/// The type arguments of a declared type.
+fn arguments_of(sort: &Sort) -> &[Ty] {
     match &sort.node {
-        TyNode::Param(_) => None,
-        _ => Some(sort),
+        TyNode::Compound(parts) => match &**parts {
+            CompoundTy::Adt(_, _, arguments) => arguments.as_slice(),
+            _ => &[],
+        },
+        _ => &[],
     }
 }
 
-/// The fields of the sort, where it is a struct.
-fn fields_of<'a>(adts: &'a [AdtDecl], sort: &'a Sort) -> Option<(&'a VariantDecl, &'a [Ty])> {
+/// A copy of the sort; `None` of a type parameter.
+fn known(alloc: Global, sort: &Sort) -> Result<Option<Sort>, NoMemory> {
     match &sort.node {
-        TyNode::Compound(parts) => match &**parts {
-            CompoundTy::Adt(id, _, arguments) => Some((struct_of(adts, *id)?, arguments)),
-            _ => None,
+        TyNode::Param(_) => Ok(None),
+        _ => Ok(Some(sort.copy(alloc)?)),
+    }
+}
+
+/// The type of a field, at the type arguments, where it is known.
+fn field_sort(alloc: Global, ty: &Ty, arguments: &[Ty]) -> Result<Option<Sort>, NoMemory> {
+    match &ty.node {
+        TyNode::Param(number) => match arguments.get(*number as usize) {
+            Some(argument) => known(alloc, argument),
+            None => Ok(None),
         },
-        _ => None,
+        _ => known(alloc, ty),
     }
 }
 
 /// The sort of a part, where it is known.
-fn part_sort<'a>(adts: &'a [AdtDecl], sort: &'a Sort, number: u32) -> Option<&'a Sort> {
+fn part_sort(
+    alloc: Global,
+    adts: &[AdtDecl],
+    sort: &Sort,
+    number: u32,
+) -> Result<Option<Sort>, NoMemory> {
     if let TyNode::Tuple(parts) = &sort.node {
-        return parts.get(number as usize);
+        return match parts.get(number as usize) {
+            Some(part) => known(alloc, part),
+            None => Ok(None),
+        };
     }
-    let (variant, arguments) = fields_of(adts, sort)?;
-    let field = variant.fields.get(number as usize)?;
-    argument_or(&field.ty, arguments)
+    let Some(variant) = struct_of(adts, sort) else {
+        return Ok(None);
+    };
+    match variant.fields.get(number as usize) {
+        Some(field) => field_sort(alloc, &field.ty, arguments_of(sort)),
+        None => Ok(None),
+    }
+}
+
+/// The sort of the variable, under what is bound around it, the innermost last.
+fn sort_of_variable(
+    spelled: &Spelled<'_>,
+    bound: &[Bound],
+    name: Name,
+) -> Result<Option<Sort>, NoMemory> {
+    for i in (0..bound.len()).rev() {
+        if name.0 == bound[i].name.0 {
+            return known(spelled.alloc, &bound[i].sort);
+        }
+    }
+    match spelled.sequent.sort_of(name) {
+        Some(sort) => known(spelled.alloc, sort),
+        None => Ok(None),
+    }
+}
+
+/// The sort of a variable, or of a part of one, where it is known.
+#[cycle(sort_of)]
+fn sort_of(spelled: &Spelled<'_>, bound: &[Bound], t: &Term) -> Result<Option<Sort>, NoMemory> {
+    match t.form() {
+        TermForm::Var(name) => sort_of_variable(spelled, bound, name),
+        TermForm::Unary(TermUnary::Field(number), whole) => match sort_of(spelled, bound, whole)? {
+            Some(sort) => part_sort(spelled.alloc, spelled.declared.adts, &sort, number),
+            None => Ok(None),
+        },
+        _ => Ok(None),
+    }
+}
+
+/// The name of a field, where it has one.
+fn name_of_field(variant: &VariantDecl, place: usize) -> Option<Name> {
+    let field: &FieldDecl = variant.fields.get(place)?;
+    match variant.kind {
+        VariantKind::Named => Some(field.name),
+        VariantKind::Numbered | VariantKind::Unit => None,
+    }
+}
+
+/// The name of the part of the term, where it is a field that has one.
+pub(crate) fn field_of(
+    spelled: &Spelled<'_>,
+    bound: &[Bound],
+    whole: &Term,
+    number: u32,
+) -> Result<Option<Name>, NoMemory> {
+    let Some(sort) = sort_of(spelled, bound, whole)? else {
+        return Ok(None);
+    };
+    match struct_of(spelled.declared.adts, &sort) {
+        Some(variant) => Ok(name_of_field(variant, number as usize)),
+        None => Ok(None),
+    }
+}
+
+/// Those that are bound, and one more inside of them.
+pub(crate) fn bound_inside(
+    alloc: Global,
+    bound: &[Bound],
+    name: Name,
+    sort: &Sort,
+) -> Result<Vec<Bound>, NoMemory> {
+    let mut inner = Vec::new(alloc);
+    for around in bound {
+        let sort = around.sort.copy(alloc)?;
+        let name = around.name;
+        inner.push(Bound { name, sort })?;
+    }
+    let sort = sort.copy(alloc)?;
+    inner.push(Bound { name, sort })?;
+    Ok(inner)
 }
 
 impl<'a> Spelled<'a> {
@@ -73,48 +171,15 @@ impl<'a> Spelled<'a> {
         self.variables.text(name).unwrap_or("_")
     }
 
+    /// The text of a name of the source.
+    pub(crate) fn text(&self, name: Name) -> &'a str {
+        self.declared.names.text(name).unwrap_or("_")
+    }
+
     /// The text of the sort.
     pub(crate) fn sort(&self, sort: &Sort) -> Result<String, NoMemory> {
         let bytes = sort_bytes(self.alloc, &self.declared, sort)?;
         Ok(String::from_utf8_lossy(self.alloc, &bytes)?)
-    }
-
-    fn text(&self, name: Name) -> &'a str {
-        self.declared.names.text(name).unwrap_or("_")
-    }
-
-    /// The sort of the variable, under what is bound around it, the innermost last.
-    fn sort_of_variable(&self, bound: &[Bound<'a>], name: Name) -> Option<&'a Sort> {
-        let mut left = bound.len();
-        while left > 0 {
-            left -= 1;
-            if name.0 == bound[left].name.0 {
-                return Some(bound[left].sort);
-            }
-        }
-        self.sequent.sort_of(name)
-    }
-
-    /// The sort of a variable, or of a part of one, where it is known.
-    #[cycle(sort_of)]
-    fn sort_of(&self, bound: &[Bound<'a>], t: &Term) -> Option<&'a Sort> {
-        match t.form() {
-            TermForm::Var(name) => self.sort_of_variable(bound, name),
-            TermForm::Unary(TermUnary::Field(number), whole) => {
-                part_sort(self.declared.adts, self.sort_of(bound, whole)?, number)
-            }
-            _ => None,
-        }
-    }
-
-    /// The name of the part of the term, where it is a field that has one.
-    pub(crate) fn field(&self, bound: &[Bound<'a>], whole: &Term, number: u32) -> Option<&'a str> {
-        let sort = self.sort_of(bound, whole)?;
-        let (variant, _) = fields_of(self.declared.adts, sort)?;
-        match variant.kind {
-            VariantKind::Named => Some(self.text(variant.fields.get(number as usize)?.name)),
-            VariantKind::Numbered | VariantKind::Unit => None,
-        }
     }
 
     /// What makes a value of parts: the declared type and the variant, where they are declared.
@@ -146,9 +211,8 @@ impl<'a> Spelled<'a> {
         variant: &VariantDecl,
         place: usize,
     ) -> Result<(), NoMemory> {
-        let label: Option<&FieldDecl> = variant.fields.get(place);
-        if let (Some(field), VariantKind::Named) = (label, variant.kind) {
-            out.push_str(self.text(field.name))?;
+        if let Some(name) = name_of_field(variant, place) {
+            out.push_str(self.text(name))?;
             out.push_str(": ")?;
         }
         Ok(())

@@ -21,11 +21,7 @@ pub(crate) fn suffix_bytes(sort: &Sort) -> &'static [u8]
 }
 
 /// The sort as text, as it stands in goals. Its one error is want of memory.
-pub fn sort_bytes(
-    alloc: Global,
-    spelling: &Spelling<'_>,
-    sort: &Sort,
-) -> Result<Vec<u8>, NoMemory>
+pub fn sort_bytes(alloc: Global, spelling: &Spelling<'_>, sort: &Sort) -> Result<Vec<u8>, NoMemory>
     ensures { IfOk result (λ text. text.items ≡ sort_text (spelling_of spelling.now) sort.now) }
 {
     let mut out = Vec::new(alloc);

@@ -14,7 +14,7 @@ returns-in-Ok c =
     let p = c.args.program in
     let proofs = c.as_slice.result.now in
     let answers = reported_answers c.args.source.now p (Some (whole c.args.bytes.now)) proofs
-        (given_proofs p.names c.args.bytes.now c.in-Ok.file proofs c.requires.within c.in-Ok.ensures.ok c.as_slice.ensures) in
+    (given_proofs p.names c.args.bytes.now c.in-Ok.file proofs c.requires.within c.in-Ok.ensures.ok c.as_slice.ensures) in
     if_ok (λ (plan : Plan). (v : Verdict) × IsVerdict proofs (record p { names = c.proofs_of.new.names }) v × (plan.status ≡ status_of v) × (plan.bytes.items ≡ report_of c.args.source.now v))
     (λ (plan : Plan). AnswersVerify c.args.source.now p (Some (whole c.args.bytes.now)) plan.status plan.bytes.items) c.reported.result
     (λ plan (v, is, printed). answers plan (v, with_any_names proofs p c.proofs_of.new.names v is, printed)) c.reported.ensures
