@@ -133,3 +133,41 @@ fn goals_over_points_are_listed(rt: HostRuntime) -> Result<(), Fail> {
     assert!(rt; call.gives(rt.alloc(), 0, GOALS)?);
     Ok(())
 }
+
+const SUM: &[u8] = b"#[derive(Clone, Copy)]
+struct Point {
+    x: i32,
+    y: i32,
+}
+
+#[ensures(result@ == p.x@ + p.y@)]
+fn sum(p: Point) -> i64 {
+    p.x as i64 + p.y as i64
+}
+";
+
+const PROOFS_OF_SUM: &[u8] = b"creusot-proofs 1
+proof 1 sum
+intro p a b
+range p.x
+range p.y
+split
+lin 1:goal 1:-1.1 1:-1.2 1:2.1 1:3.1
+lin 1:goal 1:1.1 1:1.2 1:2.2 1:3.2
+end
+proof 2 sum
+intro p a b c
+antisym
+lin 1:goal 1:1.1 1:1.2 1:1.3
+lin 1:goal 1:-1.1 1:-1.2 1:-1.3
+end
+";
+
+/// No contract bounds the fields: their types do.
+#[test]
+fn fields_are_spoken_of_in_proofs(rt: HostRuntime) -> Result<(), Fail> {
+    let call = Call::of(SUM, PROOFS_OF_SUM);
+    let printed = b"verified sum\nsummary functions 1 verified 1 obligations 2 proved 2\n";
+    assert!(rt; call.gives(rt.alloc(), 0, printed)?);
+    Ok(())
+}
