@@ -174,7 +174,7 @@ fn push_quantified(
     sort: &Sort,
     body: &Term,
 ) -> Result<(), NoMemory> {
-    let text = spelled.variable(name);
+    let text = spelled.text(name);
     let sorts = spelled.sort(sort)?;
     let word = match word {
         Quantifier::Forall => "forall",
@@ -213,7 +213,7 @@ pub(crate) fn push_formula(
     t: &Term,
 ) -> Result<(), NoMemory> {
     match t.form() {
-        TermForm::Var(name) => Ok(out.push_str(spelled.variable(name))?),
+        TermForm::Var(name) => Ok(out.push_str(spelled.name_under(bound, name))?),
         TermForm::Lit(number, _) => Ok(write!(out, "{number}")?),
         TermForm::Truth(holds) => Ok(write!(out, "{holds}")?),
         TermForm::Make(ctor, parts) => push_made(out, spelled, bound, ctor, parts),

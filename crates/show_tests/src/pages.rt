@@ -5,7 +5,7 @@ use std::test::Fail;
 const PROOFS: &[u8] = b"creusot-proofs 1\nproof 1 quo\nintro x y\nhyp 1.2\nend\n";
 
 /// What is asked of a source, and the page.
-const PAGES: [(Verb, &[u8], &str); 7] = [
+const PAGES: [(Verb, &[u8], &str); 8] = [
     (Verb::Errors, b"fn f() -> i32 { 1 }\n", ""),
     (
         Verb::Errors,
@@ -32,6 +32,11 @@ const PAGES: [(Verb, &[u8], &str); 7] = [
         Verb::Goals,
         b"#[ensures(result == t)]\nfn f(t: (u8, bool)) -> (u8, bool) { (1, t.1) }\n",
         "f.rs:1:11: ensures, obligation 1 of f\n    #[ensures(result == t)]\n              ^^^^^^^^^^^\n    no proof\n    t: (u8, bool)\n    |- (1, t.1) == t\n",
+    ),
+    (
+        Verb::Goals,
+        b"#[requires((forall<o: Option<(Int, bool)>> o == o) || n@ < 5)]\nfn inc(n: i32) -> i32 { n + 1 }\n",
+        "f.rs:2:27: overflow, obligation 1 of inc\n    fn inc(n: i32) -> i32 { n + 1 }\n                              ^\n    no proof\n    n: i32\n    1.1: (forall<o: Option<(Int, bool)>> (o == o)) || (n@ < 5)\n    |- (-2147483648 <= (n@ + 1)) && ((n@ + 1) <= 2147483647)\n",
     ),
     (
         Verb::Skeleton,
