@@ -1,5 +1,5 @@
 //! Terms as contracts spell them, with the names of variables.
-use crate::spelling::{Bound, Spelled, bound_inside, field_of};
+use crate::spelling::{Bound, Spelled, bound_inside, field_of, number_of};
 use logic_term::{
     Ctor, Quantifier, Sort, Term, TermBinary, TermForm, TermUnary, VariantDecl, VariantKind,
 };
@@ -19,6 +19,19 @@ fn binary_text(op: TermBinary) -> &'static str {
         TermBinary::And => " && ",
         TermBinary::Or => " || ",
         TermBinary::Implies => " ==> ",
+    }
+}
+
+/// The text of a variable, or the name of what a quantifier around it binds.
+fn push_name(
+    out: &mut String,
+    spelled: &Spelled<'_>,
+    bound: &[Bound],
+    name: Name,
+) -> Result<(), NoMemory> {
+    match number_of(bound, name) {
+        Some(number) => Ok(write!(out, "b{number}")?),
+        None => Ok(out.push_str(spelled.variable(name))?),
     }
 }
 
@@ -163,7 +176,8 @@ fn push_unary(
     }
 }
 
-/// `forall<x: S> A` or `exists<x: S> A`
+/// `forall<b1: S> A` or `exists<b1: S> A`: the name is `b` and one more than the number of quantifiers around it, since terms are equal up to the names
+/// that they bind, and the kernel gives these numbers of its own.
 #[cycle(formula)]
 fn push_quantified(
     out: &mut String,
@@ -174,14 +188,14 @@ fn push_quantified(
     sort: &Sort,
     body: &Term,
 ) -> Result<(), NoMemory> {
-    let text = spelled.text(name);
     let sorts = spelled.sort(sort)?;
     let word = match word {
         Quantifier::Forall => "forall",
         Quantifier::Exists => "exists",
     };
-    write!(out, "{word}<{text}: {sorts}> ")?;
     let inner = bound_inside(spelled.alloc, bound, name, sort)?;
+    let number = inner.len();
+    write!(out, "{word}<b{number}: {sorts}> ")?;
     push_part(out, spelled, &inner, body)
 }
 
@@ -213,7 +227,7 @@ pub(crate) fn push_formula(
     t: &Term,
 ) -> Result<(), NoMemory> {
     match t.form() {
-        TermForm::Var(name) => Ok(out.push_str(spelled.name_under(bound, name))?),
+        TermForm::Var(name) => push_name(out, spelled, bound, name),
         TermForm::Lit(number, _) => Ok(write!(out, "{number}")?),
         TermForm::Truth(holds) => Ok(write!(out, "{holds}")?),
         TermForm::Make(ctor, parts) => push_made(out, spelled, bound, ctor, parts),

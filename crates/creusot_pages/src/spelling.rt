@@ -92,13 +92,14 @@ fn part_sort(
     }
 }
 
-fn is_bound(bound: &[Bound], name: Name) -> bool {
-    for around in bound {
-        if name.0 == around.name.0 {
-            return true;
+/// How many quantifiers there are up to the innermost that binds the name.
+pub(crate) fn number_of(bound: &[Bound], name: Name) -> Option<usize> {
+    for i in (0..bound.len()).rev() {
+        if name.0 == bound[i].name.0 {
+            return Some(i + 1);
         }
     }
-    false
+    None
 }
 
 /// The sort of the variable, under what is bound around it, the innermost last.
@@ -180,16 +181,7 @@ impl<'a> Spelled<'a> {
         self.variables.text(name).unwrap_or("_")
     }
 
-    /// The text of a name in a formula: one that is bound there is a name of the source or of its proofs.
-    pub(crate) fn name_under(&self, bound: &[Bound], name: Name) -> &'a str {
-        if is_bound(bound, name) {
-            self.text(name)
-        } else {
-            self.variable(name)
-        }
-    }
-
-    /// The text of a name of the source, or of its proofs; one without a text is `_`.
+    /// The text of a name of the source; one without a text is `_`.
     pub(crate) fn text(&self, name: Name) -> &'a str {
         self.declared.names.text(name).unwrap_or("_")
     }

@@ -36,7 +36,7 @@ const PAGES: [(Verb, &[u8], &str); 8] = [
     (
         Verb::Goals,
         b"#[requires((forall<o: Option<(Int, bool)>> o == o) || n@ < 5)]\nfn inc(n: i32) -> i32 { n + 1 }\n",
-        "f.rs:2:27: overflow, obligation 1 of inc\n    fn inc(n: i32) -> i32 { n + 1 }\n                              ^\n    no proof\n    n: i32\n    1.1: (forall<o: Option<(Int, bool)>> (o == o)) || (n@ < 5)\n    |- (-2147483648 <= (n@ + 1)) && ((n@ + 1) <= 2147483647)\n",
+        "f.rs:2:27: overflow, obligation 1 of inc\n    fn inc(n: i32) -> i32 { n + 1 }\n                              ^\n    no proof\n    n: i32\n    1.1: (forall<b1: Option<(Int, bool)>> (b1 == b1)) || (n@ < 5)\n    |- (-2147483648 <= (n@ + 1)) && ((n@ + 1) <= 2147483647)\n",
     ),
     (
         Verb::Skeleton,
