@@ -17,9 +17,9 @@ returns-in-Ok c =
     (given_proofs p.names c.args.bytes.now c.in-Ok.file proofs c.requires.within c.in-Ok.ensures.ok c.as_slice.ensures) in
     if_ok (λ (plan : Plan). (v : Verdict) × IsVerdict proofs (record p { names = c.proofs_of.new.names }) v × (plan.status ≡ status_of v) × (plan.bytes.items ≡ report_of c.args.source.now v))
     (λ (plan : Plan). AnswersVerify c.args.source.now p (Some (whole c.args.bytes.now)) plan.status plan.bytes.items) c.reported.result
-    (λ plan (v, is, printed). answers plan (v, with_any_names proofs p c.proofs_of.new.names v is, printed)) c.reported.ensures
+    (λ plan (v, is, status, printed). answers plan (v, with_any_names proofs p c.proofs_of.new.names v is, status, printed)) c.reported.ensures
 
-pub returns-in-Err : goal.returns-in-Err
-returns-in-Err c =
+pub returns : goal.returns
+returns c =
     if_ok (PlansRefusedProofs c.in-Err.refusal) (λ (p : Plan). AnswersVerify c.args.source.now c.args.program (Some (whole c.args.bytes.now)) p.status p.bytes.items) c.plan_of_proofs.result
     (refused_proofs c.args.source.now c.args.program c.args.bytes.now c.in-Err.refusal c.requires.within c.in-Err.ensures.refused) c.plan_of_proofs.ensures
